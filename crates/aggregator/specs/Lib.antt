@@ -1,0 +1,3 @@
+pub mod Rows
+pub mod Tally
+pub mod Tallies

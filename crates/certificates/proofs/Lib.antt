@@ -1,0 +1,16 @@
+pub mod Bytes
+pub mod ConfigLaws
+pub mod StartLaws
+pub mod LeaderLaws
+pub mod Words
+pub mod Sets
+pub mod SignersLaws
+pub mod Places
+pub mod Clean
+pub mod Check
+pub mod MessageLaws
+pub mod ErrorLaws
+pub mod Accepted
+pub mod Overlap
+pub mod Theorems
+pub mod Bench

@@ -1,0 +1,4 @@
+pub mod Sound
+pub mod Votes
+pub mod Timeouts
+pub mod Proposals

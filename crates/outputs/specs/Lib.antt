@@ -1,0 +1,4 @@
+pub mod Fields
+pub mod Records
+pub mod Put
+pub mod Reads

@@ -1,0 +1,9 @@
+pub mod Again
+pub mod Cases
+pub mod ChainLaws
+pub mod Lent
+pub mod Row
+pub mod SettleLaws
+pub mod TableLaws
+pub mod Uses
+pub mod WalkLaws

@@ -1,0 +1,5 @@
+pub mod Error
+pub mod Table
+pub mod Walk
+pub mod Settle
+pub mod Parts
