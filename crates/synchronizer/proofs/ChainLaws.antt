@@ -16,7 +16,8 @@ use lib.ListN.{length, length-append}
 use borrow.Author.Tests.{lt-ltb}
 use Rattle.outputs.specs.Records.{enc, encAll, commitSize}
 use Rattle.outputs.specs.Put.{Put, Wrote}
-use Rattle.outputs.proofs.Wrote.{wrote-none, wrote-before, wrote-more, length-each, length-commit}
+use Rattle.outputs.proofs.Wrote.{wrote-none, wrote-before, wrote-more, length-each}
+use Rattle.outputs.proofs.Sizes.{length-enc}
 use Rattle.synchronizer.specs.declared.table.Slot.{Slot}
 use Rattle.synchronizer.specs.declared.ancestors.Parent.{Parent}
 use Rattle.synchronizer.specs.declared.commit.Chain.{Chain}
@@ -31,7 +32,7 @@ chain-length (suc n) t b = length-append (chainOf n t (parentOf t b .slot)) (b �
 
 -- the bytes of a chain's COMMITs
 commits-length : (n : ℕ) (t : List Slot) (b : Slot) → length (encAll (map commitRec (chainOf n t b))) ≡ commitSize * n
-commits-length n t b = length-each commitRec commitSize (λ s. length-commit (s .digest) (s .round .0)) (chainOf n t b) ∙ rw (chain-length n t b)
+commits-length n t b = length-each commitRec commitSize (λ s. length-enc (commitRec s)) (chainOf n t b) ∙ rw (chain-length n t b)
 
 -- the COMMITs of a chain into `now` at its place, which end up in `after`
 abbrev Written : List Slot → Chain → List ℕ → List ℕ → Type 0

@@ -1,0 +1,7 @@
+pub mod StartedLaws
+pub mod StageLaws
+pub mod StepLaws
+pub mod Theorems
+pub mod StageCode
+pub mod Row
+pub mod Uses

@@ -1,0 +1,4 @@
+pub mod Started
+pub mod Blocks
+pub mod Step
+pub mod Stages
