@@ -22,6 +22,7 @@ use mathlib.Core.Bool.{Bool, true, false, cond}
 use mathlib.Core.List.{List}
 use mathlib.Core.Path.{_≡_}
 use lib.ListN.{length, drop}
+use Rattle.certificates.specs.Config as limits
 use Rattle.certificates.specs.declared.numbers.Hash.{Hash}
 use Rattle.aggregator.specs.declared.tallies.Found.{Found}
 use Rattle.aggregator.specs.declared.tallies.Found.the-variants.{At, Nothing}
@@ -45,7 +46,7 @@ timeoutsLength = timeoutTallies * timeoutWidth
 
 -- "total stake at most 2^31-1"
 abbrev pub totalMax : ℕ
-totalMax = 2147483647
+totalMax = limits.totalMax
 
 -- "only used ones are looked up", "lookups the lowest match"
 unfoldable pub findRow : (List ℕ → Bool) → ℕ → ℕ → List ℕ → Found

@@ -24,6 +24,7 @@ use mathlib.Core.Path.{_≡_}
 use lib.Bits.{bitOr}
 use lib.Dec.{eqb, ltb}
 use lib.ListN.{length, getD, set}
+use Rattle.certificates.specs.Config as limits
 use Rattle.certificates.specs.declared.numbers.Hash.{Hash}
 use Rattle.certificates.specs.declared.numbers.Signers.{Signers}
 use Rattle.certificates.specs.Numbers.{sameHash}
@@ -35,7 +36,7 @@ abbrev pub fields : ℕ
 fields = 4
 
 abbrev pub places : ℕ
-places = 64
+places = limits.membersMax
 
 -- used, round, weight, names; then the hash's four words
 abbrev pub voteWidth : ℕ

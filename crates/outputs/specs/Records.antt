@@ -18,6 +18,7 @@ use mathlib.Core.List.{List, [], _∷_, _++_}
 use lib.Count.{ones}
 use lib.Dec.{eqb}
 use lib.ListN.{length, getD}
+use Rattle.certificates.specs.Config as limits
 use Rattle.certificates.specs.declared.numbers.Hash.{Hash}
 use Rattle.certificates.specs.declared.messages.QC.{QC}
 use Rattle.outputs.specs.Fields.{Field, number, hash, bytesOf}
@@ -54,7 +55,7 @@ qcFields q = hash (q .hash) ∷ number 8 (q .round .0) ∷ number 8 (q .signers 
 
 -- "Added: 1 to 64 members"
 abbrev pub membersMax : ℕ
-membersMax = 64
+membersMax = limits.membersMax
 
 -- "one 64-bit word, bit p for place p"
 unfoldable pub placesFrom : ℕ → ℕ → ℕ → List ℕ

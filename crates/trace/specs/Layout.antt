@@ -17,11 +17,12 @@ use mathlib.Core.Bool.{cond}
 use mathlib.Core.List.{List, [], _∷_}
 use lib.ListN.{length, getD, take, drop, set, replicate}
 use lib.Dec.{eqb}
+use Rattle.certificates.specs.Config as limits
 use Rattle.certificates.specs.Num.{numAt}
 
 -- "a signer list above 64"
 abbrev pub signersMax : ℕ
-signersMax = 64
+signersMax = limits.membersMax
 
 -- "any round in the record above 2^62"
 abbrev pub roundMax : ℕ
