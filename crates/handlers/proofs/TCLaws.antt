@@ -1,9 +1,9 @@
 -- Laws of TC: one for each way out. Assumes nothing.
 --     tc-taken                             `take_tc`
 --     tc-refused, tc-stale, tc-passed      `handle_tc`
-use Prim.Native.Nat.{ℕ, _+_, _≤_, _<_}
+use Prim.Native.Nat.{ℕ, _≤_, _<_}
 use mathlib.Core.List.{List}
-use mathlib.Core.Path.{_≡_, refl}
+use mathlib.Core.Path.{_≡_}
 use borrow.Author.Tests.{ne-eqb, lt-ltb, le-ltb}
 use Rattle.certificates.specs.declared.numbers.Signers.{Signers}
 use Rattle.certificates.specs.declared.messages.Checked.{Checked}

@@ -3,7 +3,7 @@
 --     tick-did, tick-within            `tick`; it leaves the round within the limit
 --     own-refused, own-tallied         `own_timeout`
 --     tick-high, tick-after            `local_timeout_round`
-use Prim.Native.Nat.{ℕ, _+_, _≤_, _<_}
+use Prim.Native.Nat.{ℕ, _≤_, _<_}
 use mathlib.Core.List.{List}
 use mathlib.Core.Path.{_≡_, refl}
 use borrow.Author.Tests.{ne-eqb, lt-ltb, le-ltb}

@@ -1,12 +1,12 @@
 -- Laws of TIMEOUT: one for each way out, and what the checks give once they are passed. Assumes nothing.
 --     timeout-stale, timeout-author                        `timeout_check`
---     sound-taken, timeout-taken                           `take_timeout`
+--     timeout-taken                                        `take_timeout`
 --     timeout-refused, timeout-qc-refused, timeout-passed  `handle_timeout`
 --     timeout-member                                       the author of a timeout that passed its checks is a member
-use Prim.Native.Nat.{ℕ, _+_, _≤_, _<_}
+use Prim.Native.Nat.{ℕ, _≤_, _<_}
 use mathlib.Core.Bool.{Bool, true, false, cond}
 use mathlib.Core.List.{List}
-use mathlib.Core.Path.{_≡_, refl, sym, _∙_}
+use mathlib.Core.Path.{_≡_, sym, _∙_}
 use native.Mathlib.Omega.{arith}
 use borrow.Author.Tests.{ne-eqb, lt-ltb, le-ltb}
 use lib.Dec.{ltb}
@@ -14,8 +14,7 @@ use lib.ListN.{length}
 use Rattle.certificates.specs.declared.numbers.Signers.{Signers}
 use Rattle.certificates.specs.declared.messages.Checked.{Checked}
 use Rattle.certificates.specs.declared.messages.Authored.{Authored}
-use Rattle.certificates.specs.declared.messages.QC.{QC}
-use Rattle.certificates.specs.Config.{totalMax, stakeOf, quorumOf}
+use Rattle.certificates.specs.Config.{stakeOf, quorumOf}
 use Rattle.certificates.specs.Messages.{embeddedCheck, authorCheck}
 use Rattle.certificates.specs.Error.{stale, qcRequiresQuorum, numberOf, authorNumber}
 use Rattle.trace.specs.declared.events.Timeout.{Timeout}
@@ -26,11 +25,10 @@ use Rattle.moves.specs.State.{State, whole}
 use Rattle.moves.specs.Outcome.{Did, Reached}
 use Rattle.moves.specs.Moves.{takenQC, advanceMost, timeOutMost}
 use Rattle.moves.specs.Tallied.{qcOf, timeoutTallied}
-use Rattle.moves.proofs.MoveLaws.{did-keeps, taken-keeps}
 use Rattle.moves.proofs.Outcomes.{reached-refused, reached-after}
-use Rattle.handlers.specs.Sound.{Sound, signersOf}
+use Rattle.handlers.specs.Sound.{signersOf}
 use Rattle.handlers.specs.Timeouts.{timeoutCheck, timeoutTaken, timeoutWith, handledTimeout, handleTimeoutMost}
-use Rattle.handlers.proofs.HandlerLaws.{author-member, keeps-sound}
+use Rattle.handlers.proofs.HandlerLaws.{author-member}
 
 -- ---- the checks of the timeout itself
 
@@ -53,12 +51,6 @@ module _ (m : List ℕ) (current : ℕ) (t : Timeout) where
       author-member m (t .author .0) (t .verdict) (not-stale (ltb (t .round .0) current) (authorNumber (authorCheck m (t .author .0) (t .verdict))) (sym e ∙ z))
 
 -- ---- the QC is taken, and the timeout counted
-
--- a record that counts as started is one once a QC is taken
-pub sound-taken : {m : List ℕ} {own : ℕ} (core : Core) {votes timeouts : List ℕ} (q : QC) {k at next : ℕ} {n : Core} {out out′ v w : List ℕ} → Sound m own votes timeouts
-    → Did k (takenQC (whole core votes timeouts) q) out at n v w out′ next → Sound m own v w
-sound-taken core {votes = votes} {timeouts = timeouts} q k d =
-    keeps-sound (did-keeps d (taken-keeps totalMax (whole core votes timeouts) (k .long) (k .wide) q)) k
 
 module _ (m : List ℕ) (own : ℕ) (core : Core) (votes timeouts : List ℕ) (t : Timeout) (signers : Signers) where
   pub timeout-taken : {need stake at mid : ℕ} {n : Core} {out out′ out″ v w v′ w′ : List ℕ} {r : Ran} → need ≡ quorumOf m → stake ≡ stakeOf m (t .author .0)

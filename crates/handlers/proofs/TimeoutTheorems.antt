@@ -24,6 +24,7 @@ use Rattle.moves.specs.Outcome.{Step, Outcome, quiet, refused}
 use Rattle.moves.specs.Outcome as outcome
 use Rattle.moves.specs.Moves.{takenQC}
 use Rattle.moves.specs.Tallied.{qcOf, afterTimeout, timeoutTallied}
+use Rattle.moves.proofs.TallyLaws.{timeout-tallied-is}
 use Rattle.handlers.specs.Sound.{first, signersOf}
 use Rattle.handlers.specs.Timeouts.{timeoutCheck, timeoutTaken, timeoutWith, handledTimeout, tcTaken, staleIf, tcWith, handledTC, handledTick}
 
@@ -46,19 +47,21 @@ after-late m own s round timeouts Used = inr (inl refl)
 after-late m own s round timeouts More = inl refl
 after-late m own s round timeouts (Full i names) = inl refl
 
+tallied-late : (m : List ℕ) (own need : ℕ) (s : State) (round p stake high : ℕ) → Late (timeoutTallied m own need s round p stake high .answer)
+tallied-late m own need s round p stake high =
+    rw timeout-tallied-is (after-late m own s round (timeoutsAfter (s .timeouts) round p stake need high) (timeoutAdded (s .timeouts) round p stake need))
+
 check-late : (b : Bool) (n : ℕ) (s : State) (o : Outcome) → Late (o .answer) → (Late (cond b o (refused n s) .answer) → ⊥) → cond b o (refused n s) .left ≡ quiet s
 check-late true n s o k h = absurd (h k)
 check-late false n s o k h = refl
 
 pub timeout-answered : (m : List ℕ) (own : ℕ) (s : State) (t : Timeout) (r : List ℕ) → (Late (handledTimeout m own s t r .answer) → ⊥) → handledTimeout m own s t r .left ≡ quiet s
-unfolding handledTimeout timeoutWith timeoutTaken timeoutTallied
+unfolding handledTimeout timeoutWith timeoutTaken
 timeout-answered m own s t r =
-    let qc = embeddedCheck m (quorumOf m) (qcPart r timeoutQC) in
-    let u = takenQC s (qcOf (t .«qc_hash») (t .«qc_round» .0) (signersOf qc)) .state in
-    let p = t .author .0 in
-    check-late (eqb (timeoutNumber m s t r) 0) (timeoutNumber m s t r) s (timeoutTaken m own s t (signersOf qc))
-    (after-late m own u (t .round .0) (timeoutsAfter (u .timeouts) (t .round .0) p (stakeOf m p) (quorumOf m) (t .«qc_round» .0))
-    (timeoutAdded (u .timeouts) (t .round .0) p (stakeOf m p) (quorumOf m)))
+    let signers = signersOf (embeddedCheck m (quorumOf m) (qcPart r timeoutQC)) in
+    let u = takenQC s (qcOf (t .«qc_hash») (t .«qc_round» .0) signers) .state in
+    check-late (eqb (timeoutNumber m s t r) 0) (timeoutNumber m s t r) s (timeoutTaken m own s t signers)
+    (tallied-late m own (quorumOf m) u (t .round .0) (t .author .0) (stakeOf m (t .author .0)) (t .«qc_round» .0))
 
 check-early : (b : Bool) (n : ℕ) (s : State) (a : Step) → cond b (outcome.done 0 a) (refused n s) .answer ≢ 0 → cond b (outcome.done 0 a) (refused n s) .left ≡ quiet s
 check-early true n s a h = absurd (h refl)

@@ -78,13 +78,12 @@ fn take_timeout(
         signers,
     };
     let a = process_qc(core, votes, timeouts, out, 0, qc);
-    let n = a.core;
     let held = stake(members, t.author);
     count_timeout(
         members,
         own,
         need,
-        n,
+        a.core,
         votes,
         timeouts,
         out,
@@ -147,12 +146,11 @@ fn take_tc(
     requires { ⌜ Sound (now members) (own .0) (now votes) (now timeouts) × (round .0 ≤ roundMax) × (handleTCMost ≤ length (now out)) ⌝ }
     ensures { λ n. ⌜ Did handleTCMost (tcTaken (now (members .entry)) (own .0) (whole core (now (votes .entry)) (now (timeouts .entry))) (round .0) names (now (part .entry))) (now (out .entry)) 0 (n .core) (now (votes .exit)) (now (timeouts .exit)) (now (out .exit)) (n .at) ⌝ }
 {
-    let a = advance_round(core, votes, timeouts, out, 0, round);
-    let n = a.core;
+    let mut a = advance_round(core, votes, timeouts, out, 0, round);
     let mut highs = [0u64; MEMBERS_MAX];
     highs_of(&mut highs, part);
-    let end = generate_proposal_with(members, own, n, &highs, out, a.at, round, names);
-    Moved { core: n, at: end }
+    a.at = generate_proposal_with(members, own, a.core, &highs, out, a.at, round, names);
+    a
 }
 
 // The TC is checked before STALE, as in the Rust.
@@ -241,7 +239,6 @@ fn own_timeout(
         };
     }
     let held = stake(members, own);
-    let high = core.high_qc;
     count_timeout(
         members,
         own,
@@ -254,7 +251,7 @@ fn own_timeout(
         core.round,
         own,
         held,
-        high.round,
+        core.high_qc.round,
     )
 }
 
@@ -278,6 +275,5 @@ pub fn local_timeout_round(
         };
     }
     let a = tick(core, out, 0);
-    let n = a.core;
-    own_timeout(members, own, need, n, votes, timeouts, out, a.at)
+    own_timeout(members, own, need, a.core, votes, timeouts, out, a.at)
 }

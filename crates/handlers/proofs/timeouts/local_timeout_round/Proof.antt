@@ -13,7 +13,7 @@ tick-requires c κs = search needs
 
 own-timeout-requires : tie.Need-own-timeout-requires
 own-timeout-requires c κs =
-    let after-tick = c .before .before .before .before .before .before in
+    let after-tick = c .before .before .before .before .before in
     let low = after-tick .before .before in
     let start = low .before .before .before .before .before .before in
     (start .pre .0, start .pre .1, tick-within (after-tick .tick .ensures) (low .if1 .left), search needs)

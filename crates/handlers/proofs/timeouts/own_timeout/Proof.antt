@@ -33,7 +33,7 @@ same-length-3 c = search needs
 returns-2 : tie.Need-returns-2
 returns-2 c =
     let after-count = c .before .before .before .before .before .before in
-    let after-stake = after-count .before .before .before .before .before in
+    let after-stake = after-count .before .before .before .before in
     let passed = after-stake .before in
     let after-number = passed .before in
     let after-author = after-number .before in
