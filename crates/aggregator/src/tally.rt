@@ -4,6 +4,7 @@
 // done to them.
 use crate::tallies::Added;
 use crate::tallies::clear;
+use certificates::config::MEMBERS_MAX;
 use certificates::numbers::Hash;
 use certificates::numbers::Place;
 use certificates::numbers::Round;
@@ -36,7 +37,7 @@ const HASH_D: usize = 7;
 // In a timeout tally: the first of the high rounds, and how many there are.
 pub(crate) const HIGHS: usize = 4;
 
-pub(crate) const PLACES: usize = 64;
+pub(crate) const PLACES: usize = MEMBERS_MAX;
 
 // Whether a vote tally is in use for the round and the hash.
 pub(crate) fn is_vote(t: &[u64], round: Round, hash: Hash) -> bool

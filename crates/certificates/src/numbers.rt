@@ -4,6 +4,9 @@ ghost use Rattle.certificates.specs.Numbers.{sameHash};
 
 pub struct Round(pub u64);
 
+// The highest round that a record may name.
+pub const ROUND_MAX: u64 = 4611686018427387904;
+
 pub struct Stake(pub u32);
 
 pub struct Place(pub u16);

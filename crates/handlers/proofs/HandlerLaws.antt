@@ -21,7 +21,8 @@ use Rattle.certificates.proofs.MessageLaws.{author}
 use Rattle.certificates.proofs.ErrorLaws.{number-valid}
 use Rattle.aggregator.specs.Tally.{places}
 use Rattle.moves.specs.declared.state.Core.{Core}
-use Rattle.moves.specs.State.{State, whole, roundMax}
+use Rattle.certificates.specs.Numbers.{roundMax}
+use Rattle.moves.specs.State.{State, whole}
 use Rattle.moves.specs.Outcome.{Did}
 use Rattle.moves.specs.Moves.{takenQC, certifyMost, timeOutMost}
 use Rattle.moves.specs.Tallied.{VoteCounts, TimeoutCounts}

@@ -11,7 +11,7 @@ use Rattle.certificates.specs.declared.messages.Authored.{Authored}
 use Rattle.certificates.specs.Config.{stakeOf, quorumOf}
 use Rattle.certificates.specs.Messages.{authorCheck}
 use Rattle.certificates.specs.Error.{roundTooHigh, authorNumber}
-use Rattle.trace.specs.Layout.{roundMax}
+use Rattle.certificates.specs.Numbers.{roundMax}
 use Rattle.outputs.specs.Records.{timerReset, timeout, enc, timerResetSize, timeoutSize}
 use Rattle.outputs.specs.Put.{Put}
 use Rattle.outputs.proofs.Wrote.{wrote-one, wrote-then}

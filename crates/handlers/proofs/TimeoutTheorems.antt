@@ -15,7 +15,8 @@ use Rattle.certificates.specs.Config.{stakeOf, quorumOf}
 use Rattle.certificates.specs.Messages.{embeddedCheck, tcCheck}
 use Rattle.certificates.specs.Error.{done, roundTooHigh, authorityReuse, qcRequiresQuorum, tcRequiresQuorum, talliesFull, numberOf}
 use Rattle.trace.specs.declared.events.Timeout.{Timeout}
-use Rattle.trace.specs.Layout.{roundMax, timeoutQC, tcBody, qcPart, tcPart}
+use Rattle.certificates.specs.Numbers.{roundMax}
+use Rattle.trace.specs.Layout.{timeoutQC, tcBody, qcPart, tcPart}
 use Rattle.aggregator.specs.declared.tallies.Added.{Added}
 use Rattle.aggregator.specs.declared.tallies.Added.the-variants.{NoRoom, Used, More, Full}
 use Rattle.aggregator.specs.Tallies.{timeoutAdded, timeoutsAfter}

@@ -24,7 +24,8 @@ use Rattle.certificates.specs.Config.{stakeOf, quorumOf}
 use Rattle.certificates.specs.Messages.{embeddedCheck, tcCheck, authorCheck}
 use Rattle.certificates.specs.Error.{stale, roundTooHigh, qcRequiresQuorum, tcRequiresQuorum, numberOf, authorNumber}
 use Rattle.trace.specs.declared.events.Timeout.{Timeout}
-use Rattle.trace.specs.Layout.{roundMax, timeoutQC, tcBody, qcPart, tcPart, highsOf}
+use Rattle.certificates.specs.Numbers.{roundMax}
+use Rattle.trace.specs.Layout.{timeoutQC, tcBody, qcPart, tcPart, highsOf}
 use Rattle.outputs.specs.Records.{Rec, timeout, timerReset, timerResetSize, timeoutSize, makeWithMost}
 use Rattle.outputs.specs.Put.{Wrote}
 use Rattle.moves.specs.declared.state.Core.{Core}

@@ -3,6 +3,7 @@ use crate::checks::YES;
 use crate::checks::signers_of;
 use certificates::config::MEMBERS_MAX;
 use certificates::config::stake;
+use certificates::error::DONE;
 use certificates::error::QC_REQUIRES_QUORUM;
 use certificates::error::ROUND_TOO_HIGH;
 use certificates::error::STALE;
@@ -14,6 +15,7 @@ use certificates::messages::check_author;
 use certificates::messages::check_embedded_qc;
 use certificates::messages::check_tc;
 use certificates::numbers::Place;
+use certificates::numbers::ROUND_MAX;
 use certificates::numbers::Round;
 use certificates::numbers::Signers;
 use certificates::numbers::Stake;
@@ -26,7 +28,6 @@ use moves::state::Ran;
 use moves::tallies::count_timeout;
 use outputs::records::put_timeout;
 use outputs::records::put_timer_reset;
-use trace::events::ROUND_MAX;
 use trace::events::TC_BODY;
 use trace::events::TIMEOUT_QC;
 use trace::events::Timeout;
@@ -37,7 +38,7 @@ ghost use mathlib.Core.Path.{_≡_};
 ghost use Prim.Native.Nat.{_+_, _≤_, _<_};
 ghost use lib.ListN.{length};
 ghost use Rattle.certificates.specs.Config.{quorumOf};
-ghost use Rattle.trace.specs.Layout.{roundMax};
+ghost use Rattle.certificates.specs.Numbers.{roundMax};
 ghost use Rattle.moves.specs.State.{whole};
 ghost use Rattle.moves.specs.Outcome.{Did, Reached};
 ghost use Rattle.moves.specs.Moves.{timeOutMost};
@@ -189,7 +190,7 @@ pub fn handle_tc(
     let a = take_tc(members, own, core, votes, timeouts, out, part, round, names);
     let n = a.core;
     Ran {
-        answer: 0,
+        answer: DONE,
         core: n,
         at: a.at,
     }

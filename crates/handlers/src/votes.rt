@@ -19,7 +19,7 @@ ghost use mathlib.Core.Path.{_≡_};
 ghost use Prim.Native.Nat.{_+_, _≤_};
 ghost use lib.ListN.{length};
 ghost use Rattle.certificates.specs.Config.{quorumOf};
-ghost use Rattle.trace.specs.Layout.{roundMax};
+ghost use Rattle.certificates.specs.Numbers.{roundMax};
 ghost use Rattle.moves.specs.State.{whole};
 ghost use Rattle.moves.specs.Outcome.{Reached};
 ghost use Rattle.moves.specs.Moves.{certifyMost};

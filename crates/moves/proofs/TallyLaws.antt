@@ -16,7 +16,8 @@ use Rattle.aggregator.specs.Tally.{places, voteWidth, timeoutWidth, AddedAs}
 use Rattle.aggregator.specs.Tallies.{voteTallies, timeoutTallies, votesLength, timeoutsLength, totalMax, Light, highsAt, voteAdded, votesAfter, timeoutAdded, timeoutsAfter}
 use Rattle.aggregator.proofs.Laws.{countable, vote-no-room, vote-used, votes-after-length, votes-after-light, timeout-no-room, timeout-used, timeouts-after-length, timeouts-after-light}
 use Rattle.moves.specs.declared.state.Core.{Core}
-use Rattle.moves.specs.State.{State, whole, withVotes, withTimeouts, roundMax}
+use Rattle.certificates.specs.Numbers.{roundMax}
+use Rattle.moves.specs.State.{State, whole, withVotes, withTimeouts}
 use Rattle.moves.specs.Outcome.{Did, Reached}
 use Rattle.moves.specs.Moves.{certified, timedOut, certifyMost, timeOutMost}
 use Rattle.moves.specs.Tallied.{qcOf, afterVote, voteTallied, afterTimeout, timeoutTallied, VoteCounts, TimeoutCounts}

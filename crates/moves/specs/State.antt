@@ -2,8 +2,7 @@
 --     whole c v t                                  the state of these parts
 --     withVotes, withTimeouts, withCore            the state with one part replaced
 --     inRound, withVoted, withCommitted, withHigh  the part by value with one field replaced
---     roundMax                                     the highest round that a part of a handler is given
-use Prim.Native.Nat.{ℕ, _^_}
+use Prim.Native.Nat.{ℕ}
 use mathlib.Core.List.{List}
 use Rattle.certificates.specs.declared.messages.QC.{QC}
 use Rattle.moves.specs.declared.state.Core.{Core}
@@ -40,7 +39,3 @@ withCommitted c r =
 abbrev pub withHigh : Core → QC → Core
 withHigh c q =
     record { round = c .round; «last_voted_round» = c .«last_voted_round»; «last_committed_round» = c .«last_committed_round»; «high_qc» = q }
-
--- "any round in the record above 2^62"; "TICK while the current round is"
-abbrev pub roundMax : ℕ
-roundMax = 2 ^ 62

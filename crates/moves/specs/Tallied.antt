@@ -14,7 +14,8 @@ use Rattle.aggregator.specs.declared.tallies.Added.{Added}
 use Rattle.aggregator.specs.declared.tallies.Added.the-variants.{NoRoom, Used, More, Full}
 use Rattle.aggregator.specs.Tally.{voteWidth, timeoutWidth}
 use Rattle.aggregator.specs.Tallies.{voteTallies, timeoutTallies, votesLength, timeoutsLength, highsAt, voteAdded, votesAfter, timeoutAdded, timeoutsAfter, Countable}
-use Rattle.moves.specs.State.{State, withVotes, withTimeouts, roundMax}
+use Rattle.certificates.specs.Numbers.{roundMax}
+use Rattle.moves.specs.State.{State, withVotes, withTimeouts}
 use Rattle.moves.specs.Outcome.{Outcome, quiet, done, refused}
 use Rattle.moves.specs.Moves.{certified, timedOut, certifyMost, timeOutMost}
 

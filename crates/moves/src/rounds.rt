@@ -19,7 +19,8 @@ ghost use lib.ListN.{length};
 ghost use Rattle.aggregator.specs.Tallies.{votesLength, timeoutsLength, timeoutTallies, highsAt};
 ghost use Rattle.outputs.specs.Put.{Wrote};
 ghost use Rattle.outputs.specs.Records.{membersMax, makeSize, makeWithMost};
-ghost use Rattle.moves.specs.State.{whole, roundMax};
+ghost use Rattle.certificates.specs.Numbers.{roundMax};
+ghost use Rattle.moves.specs.State.{whole};
 ghost use Rattle.moves.specs.Outcome.{Did};
 ghost use Rattle.moves.specs.Moves.{advanced, raised, takenQC, makeOf, makeWithOf, certified, tcOuts, timedOut, advanceMost, certifyMost, tcOutsMost, timeOutMost};
 

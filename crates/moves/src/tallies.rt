@@ -6,6 +6,9 @@ use crate::state::Ran;
 use aggregator::tallies::Added;
 use aggregator::tallies::add_timeout;
 use aggregator::tallies::add_vote;
+use certificates::error::AUTHORITY_REUSE;
+use certificates::error::DONE;
+use certificates::error::TALLIES_FULL;
 use certificates::messages::QC;
 use certificates::numbers::Hash;
 use certificates::numbers::Place;
@@ -37,17 +40,17 @@ pub fn count_vote(
 {
     match add_vote(votes, round, hash, place, stake, need) {
         Added::NoRoom => Ran {
-            answer: 29,
+            answer: TALLIES_FULL,
             core,
             at,
         },
         Added::Used => Ran {
-            answer: 24,
+            answer: AUTHORITY_REUSE,
             core,
             at,
         },
         Added::More => Ran {
-            answer: 0,
+            answer: DONE,
             core,
             at,
         },
@@ -60,7 +63,7 @@ pub fn count_vote(
             let a = certify(members, own, core, votes, timeouts, out, at, qc);
             let n = a.core;
             Ran {
-                answer: 0,
+                answer: DONE,
                 core: n,
                 at: a.at,
             }
@@ -88,17 +91,17 @@ pub fn count_timeout(
 {
     match add_timeout(timeouts, round, place, stake, need, high) {
         Added::NoRoom => Ran {
-            answer: 29,
+            answer: TALLIES_FULL,
             core,
             at,
         },
         Added::Used => Ran {
-            answer: 24,
+            answer: AUTHORITY_REUSE,
             core,
             at,
         },
         Added::More => Ran {
-            answer: 0,
+            answer: DONE,
             core,
             at,
         },
@@ -117,7 +120,7 @@ pub fn count_timeout(
             );
             let n = a.core;
             Ran {
-                answer: 0,
+                answer: DONE,
                 core: n,
                 at: a.at,
             }

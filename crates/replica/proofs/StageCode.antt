@@ -23,7 +23,8 @@ use Rattle.trace.specs.declared.events.Block.{Block}
 use Rattle.trace.specs.Form.{formOf}
 use Rattle.trace.specs.Limits.{limitOf}
 use Rattle.trace.specs.Fields.{voteOf, timeoutOf, blockOf}
-use Rattle.trace.specs.Layout.{roundMax, tcBody, tcRound, payloadOf}
+use Rattle.certificates.specs.Numbers.{roundMax}
+use Rattle.trace.specs.Layout.{tcBody, tcRound, payloadOf}
 use Rattle.aggregator.specs.Tallies.{votesLength, timeoutsLength}
 use Rattle.outputs.specs.Put.{Put, Wrote}
 use Rattle.outputs.proofs.Wrote.{wrote-one, wrote-then, wrote-more}

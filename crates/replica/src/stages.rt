@@ -10,6 +10,12 @@ use certificates::config::load;
 use certificates::config::member_count;
 use certificates::config::own_place;
 use certificates::config::quorum_threshold;
+use certificates::error::BAD_RECORD;
+use certificates::error::BAD_SETUP;
+use certificates::error::DONE;
+use certificates::error::NOT_STARTED;
+use certificates::error::NO_ROOM;
+use certificates::error::STARTED_AGAIN;
 use certificates::messages::QC;
 use certificates::num::u64_at;
 use certificates::numbers::Hash;
@@ -198,7 +204,7 @@ fn boot(
     let at = announce(&stakes[0..n], taken.own, fresh, out);
     Begun {
         seat: taken,
-        answer: 0,
+        answer: DONE,
         core: fresh,
         at,
         does: 1,
@@ -260,8 +266,8 @@ fn start(
         out.len(),
         input,
     ) {
-        Booting::NoRoom => early(seat, core, 18),
-        Booting::BadSetup => early(seat, core, 17),
+        Booting::NoRoom => early(seat, core, NO_ROOM),
+        Booting::BadSetup => early(seat, core, BAD_SETUP),
         Booting::Good(total) => boot(stakes, votes, timeouts, out, input, seat, core, total),
     }
 }
@@ -317,13 +323,13 @@ fn handle(
 {
     match kind {
         Kind::Bad => Handed {
-            answer: 16,
+            answer: BAD_RECORD,
             core,
             at: 0,
             does: 0,
         },
         Kind::Start => Handed {
-            answer: 34,
+            answer: STARTED_AGAIN,
             core,
             at: 0,
             does: 0,
@@ -342,7 +348,7 @@ fn handle(
             of_ran(handle_tc(members, own, need, core, votes, timeouts, out, input, round))
         }
         Kind::Loopback => Handed {
-            answer: 0,
+            answer: DONE,
             core,
             at: 0,
             does: 2,
@@ -387,7 +393,7 @@ fn ready(
         );
         return of_handed(seat, need, h);
     }
-    early(seat, core, 18)
+    early(seat, core, NO_ROOM)
 }
 
 fn is_start(kind: Kind) -> bool
@@ -435,18 +441,18 @@ pub fn begin(
 {
     let kind = form_of(input);
     if is_bad(kind) {
-        return early(seat, core, 16);
+        return early(seat, core, BAD_RECORD);
     }
     match total_of(seat, stakes, votes, timeouts) {
         Setup::Bad => {
             if is_start(kind) {
                 return start(stakes, votes, timeouts, out, input, seat, core, slots);
             }
-            early(seat, core, 33)
+            early(seat, core, NOT_STARTED)
         }
         Setup::Total(total) => {
             if is_start(kind) {
-                return early(seat, core, 34);
+                return early(seat, core, STARTED_AGAIN);
             }
             ready(
                 stakes,
@@ -587,7 +593,7 @@ pub fn finish(
         let last = s.last;
         let mut n = core;
         n.last_committed_round = last;
-        if s.answer == 0 {
+        if s.answer == DONE {
             return conclude(stakes, votes, timeouts, out, input, b, n, s.at);
         }
         return Stepped {

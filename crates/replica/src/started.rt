@@ -10,6 +10,7 @@ use certificates::config::Setup;
 use certificates::config::total_stake;
 use certificates::numbers::Place;
 use certificates::numbers::Stake;
+use outputs::records::COMMIT_SIZE;
 ghost use mathlib.Core.Path.{_≡_};
 ghost use lib.ListN.{length};
 ghost use Rattle.certificates.specs.declared.config.Setup.the-variants.{Total};
@@ -89,5 +90,5 @@ pub fn is_roomy(slots: usize, room: usize) -> bool
     if SLOTS_MAX < slots {
         return false;
     }
-    44 * slots + ROOM <= room
+    COMMIT_SIZE * slots + ROOM <= room
 }

@@ -10,7 +10,7 @@ use Rattle.certificates.specs.declared.numbers.Hash.{Hash}
 use Rattle.certificates.specs.Messages.{isGenesis}
 use Rattle.certificates.proofs.MessageLaws.{genesis-round, genesis-other}
 use Rattle.synchronizer.specs.declared.table.Slot.{Slot}
-use Rattle.synchronizer.specs.Error.{ancestorAbsent, roundNotBelow}
+use Rattle.certificates.specs.Error.{ancestorAbsent, roundNotBelow}
 use Rattle.synchronizer.specs.Table.{fits, lowest, parentOf}
 use Rattle.synchronizer.specs.Walk.{refused, delivers, onParent, walkFrom, walkOf}
 

@@ -29,7 +29,7 @@ use Rattle.synchronizer.specs.declared.commit.Walked.{Walked}
 use Rattle.synchronizer.specs.declared.commit.Chain.{Chain}
 use Rattle.synchronizer.specs.declared.settle.Work.{Work}
 use Rattle.synchronizer.specs.declared.settle.Settled.{Settled}
-use Rattle.synchronizer.specs.Error.{waitParent, tableFull}
+use Rattle.certificates.specs.Error.{waitParent, tableFull}
 use Rattle.synchronizer.specs.Table.{slotAt, blank, placeOf, stored, storeAnswer, cleared, genesis, parentOf, ancestorsOf, ancestorsBy}
 use Rattle.synchronizer.specs.Walk.{noCommit, commitOf, chainOf}
 use Rattle.synchronizer.specs.Settle.{Settlement, answered, isTwoChain, cleanOf, commitIf, commitRec, linkedOf, waitOf, processedBy, processedOf, settledOf, cleanMost, settleMost, RoomFor, Settles}

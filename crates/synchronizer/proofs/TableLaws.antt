@@ -26,7 +26,7 @@ use Rattle.synchronizer.specs.declared.table.Slot.{Slot}
 use Rattle.synchronizer.specs.declared.table.Want.{Want}
 use Rattle.synchronizer.specs.declared.ancestors.Parent.{Parent}
 use Rattle.synchronizer.specs.declared.ancestors.Ancestors.{Ancestors}
-use Rattle.synchronizer.specs.Error.{waitParent, ancestorAbsent}
+use Rattle.certificates.specs.Error.{waitParent, ancestorAbsent}
 use Rattle.synchronizer.specs.Table.{blank, slotAt, fits, lowest, wantAny, wantFree, wantDigest, placeOf, stored, storeAnswer, cleared, genesis, parentOf, ancestorsBy, ancestorsOf}
 use Rattle.synchronizer.specs.Parts.{wantParent, parentBy, placed}
 use Rattle.synchronizer.proofs.Lent.{by-cases}

@@ -25,7 +25,7 @@ use Rattle.synchronizer.specs.declared.table.Slot.{Slot}
 use Rattle.synchronizer.specs.declared.ancestors.Parent.{Parent}
 use Rattle.synchronizer.specs.declared.commit.Trail.{Trail}
 use Rattle.synchronizer.specs.declared.commit.Walked.{Walked}
-use Rattle.synchronizer.specs.Error.{ancestorAbsent, roundNotBelow}
+use Rattle.certificates.specs.Error.{ancestorAbsent, roundNotBelow}
 use Rattle.synchronizer.specs.Table.{slotAt, lowest, wantDigest, genesis, parentOf}
 use Rattle.synchronizer.specs.Walk.{Walk, refused, delivers, andNewer, onParent, walkFrom, walkOf, noCommit, committedBy, commitOf, chainOf}
 use Rattle.synchronizer.specs.Parts.{countOf, stopped, walking, setOut, walkOn}

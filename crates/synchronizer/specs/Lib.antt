@@ -1,4 +1,3 @@
-pub mod Error
 pub mod Table
 pub mod Walk
 pub mod Settle

@@ -29,7 +29,7 @@ use Rattle.synchronizer.specs.declared.commit.Walked.{Walked}
 use Rattle.synchronizer.specs.declared.commit.Chain.{Chain}
 use Rattle.synchronizer.specs.declared.settle.Work.{Work}
 use Rattle.synchronizer.specs.declared.settle.Settled.{Settled}
-use Rattle.synchronizer.specs.Error.{ancestorAbsent, roundNotBelow}
+use Rattle.certificates.specs.Error.{ancestorAbsent, roundNotBelow}
 use Rattle.synchronizer.specs.Table.{placeOf, stored, storeAnswer, genesis, ancestorsOf}
 use Rattle.synchronizer.specs.Walk.{Commit, commitOf}
 use Rattle.synchronizer.specs.Settle.{Settlement, answered, isTwoChain, cleanOf, linkedOf, waitOf, cleanMost, settleMost}

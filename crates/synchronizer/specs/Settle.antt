@@ -24,7 +24,7 @@ use Rattle.synchronizer.specs.declared.table.Slot.{Slot}
 use Rattle.synchronizer.specs.declared.ancestors.Ancestors.{Ancestors}
 use Rattle.synchronizer.specs.declared.settle.Work.{Work}
 use Rattle.synchronizer.specs.declared.settle.Settled.{Settled}
-use Rattle.synchronizer.specs.Error.{waitParent, tableFull}
+use Rattle.certificates.specs.Error.{waitParent, tableFull}
 use Rattle.synchronizer.specs.Table.{placeOf, stored, cleared, ancestorsOf}
 use Rattle.synchronizer.specs.Walk.{Commit, noCommit, commitOf}
 

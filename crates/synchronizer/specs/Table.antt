@@ -24,7 +24,7 @@ use Rattle.synchronizer.specs.declared.table.Slot.{Slot}
 use Rattle.synchronizer.specs.declared.table.Want.{Want}
 use Rattle.synchronizer.specs.declared.ancestors.Parent.{Parent}
 use Rattle.synchronizer.specs.declared.ancestors.Ancestors.{Ancestors}
-use Rattle.synchronizer.specs.Error.{waitParent, tableFull, ancestorAbsent}
+use Rattle.certificates.specs.Error.{waitParent, tableFull, ancestorAbsent}
 
 -- "a dropped one becomes all zeros"
 abbrev pub blank : Slot

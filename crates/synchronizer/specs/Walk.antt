@@ -14,7 +14,7 @@ use lib.Dec.{ltb}
 use lib.ListN.{length}
 use Rattle.synchronizer.specs.declared.table.Slot.{Slot}
 use Rattle.synchronizer.specs.declared.ancestors.Parent.{Parent}
-use Rattle.synchronizer.specs.Error.{ancestorAbsent, roundNotBelow}
+use Rattle.certificates.specs.Error.{ancestorAbsent, roundNotBelow}
 use Rattle.synchronizer.specs.Table.{parentOf}
 
 pub data Walk : Type 0 where

@@ -1,10 +1,11 @@
 // The parent and the grandparent of a block: synchronizer.rs.
-use crate::error::ANCESTOR_ABSENT;
-use crate::error::WAIT_PARENT;
 use crate::table::Slot;
 use crate::table::Want;
 use crate::table::find;
 use crate::table::slot_at;
+use certificates::error::ANCESTOR_ABSENT;
+use certificates::error::DONE;
+use certificates::error::WAIT_PARENT;
 use certificates::messages::is_genesis;
 use certificates::numbers::Hash;
 use certificates::numbers::Round;
@@ -95,7 +96,7 @@ pub(crate) fn ancestors_by(p1: Parent, p0: Parent) -> Ancestors
     let b1 = p1.slot;
     if p1.found {
         if p0.found {
-            return Ancestors { answer: 0, b0, b1 };
+            return Ancestors { answer: DONE, b0, b1 };
         }
         return Ancestors {
             answer: ANCESTOR_ABSENT,

@@ -3,9 +3,10 @@
 use crate::ancestors::Parent;
 use crate::ancestors::genesis_block;
 use crate::ancestors::get_parent_block;
-use crate::error::ANCESTOR_ABSENT;
-use crate::error::ROUND_NOT_BELOW;
 use crate::table::Slot;
+use certificates::error::ANCESTOR_ABSENT;
+use certificates::error::DONE;
+use certificates::error::ROUND_NOT_BELOW;
 use certificates::numbers::Round;
 use outputs::records::put_commit;
 ghost use Prim.Native.Nat.{_+_, _*_, _-_, _≤_, _<_, _^_};
@@ -65,7 +66,7 @@ pub(crate) fn set_out(b0: Slot, last: Round) -> Trail
     if last.0 < b0.round.0 {
         return Trail {
             going: is_above_next(round, last),
-            answer: 0,
+            answer: DONE,
             blocks: 1,
             last,
             block: b0,
@@ -73,7 +74,7 @@ pub(crate) fn set_out(b0: Slot, last: Round) -> Trail
     }
     Trail {
         going: false,
-        answer: 0,
+        answer: DONE,
         blocks: 0,
         last,
         block: b0,
@@ -125,7 +126,7 @@ pub(crate) fn walk_on(u: Trail, p: Parent) -> Trail
         let round = block.round;
         return Trail {
             going: is_above_next(round, last),
-            answer: 0,
+            answer: DONE,
             blocks: u.blocks + 1,
             last,
             block,

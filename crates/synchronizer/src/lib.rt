@@ -6,6 +6,5 @@
 // its code; every decision is taken by a covered function on values.
 pub mod ancestors;
 pub mod commit;
-pub mod error;
 pub mod settle;
 pub mod table;

@@ -8,10 +8,11 @@ use crate::commit::Chain;
 use crate::commit::Walked;
 use crate::commit::count_walk;
 use crate::commit::write_commits;
-use crate::error::WAIT_PARENT;
 use crate::table::Slot;
 use crate::table::clear;
 use crate::table::store;
+use certificates::error::DONE;
+use certificates::error::WAIT_PARENT;
 use certificates::numbers::Place;
 use certificates::numbers::Round;
 use outputs::records::put_clean_mempool;
@@ -142,7 +143,7 @@ pub(crate) fn is_two_chain(a: Ancestors) -> bool
 pub(crate) fn to_commit(a: Ancestors) -> Slot
     ensures { λ r. ⌜ r ≡ toCommit a ⌝ }
 {
-    if a.answer == 0 {
+    if a.answer == DONE {
         if is_two_chain(a) {
             return a.b0;
         }
@@ -178,7 +179,7 @@ pub(crate) fn write_head(out: &mut [u8], w: Work, a: Ancestors, c: Walked) -> Ch
 {
     let left = c.blocks;
     let block = a.b0;
-    if a.answer == 0 {
+    if a.answer == DONE {
         let at = write_clean(out, w, a);
         return Chain { left, at, block };
     }

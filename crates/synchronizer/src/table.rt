@@ -1,5 +1,5 @@
 // The block table: what stands at a place, what a scan finds, a store, and the clear of START.
-use crate::error::TABLE_FULL;
+use certificates::error::TABLE_FULL;
 use certificates::numbers::Hash;
 use certificates::numbers::Round;
 use certificates::numbers::same_hash;

@@ -15,7 +15,8 @@ use native.Mathlib.Omega.{arith}
 use lib.ListN.{getD}
 use lib.Dec.{eqb}
 use borrow.Author.Tests.{ne-eqb, eqb-false}
-use Rattle.trace.specs.Layout.{signersMax, roundMax, qcCount, tcRound, tcCount, tcPart, tcRounds, blockQC, timeoutQC, tcBody, tcAt, largestHigh, highsOf}
+use Rattle.certificates.specs.Numbers.{roundMax}
+use Rattle.trace.specs.Layout.{signersMax, qcCount, tcRound, tcCount, tcPart, tcRounds, blockQC, timeoutQC, tcBody, tcAt, largestHigh, highsOf}
 use Rattle.trace.specs.Form.{anyAbove}
 use Rattle.trace.specs.Limits.{countsOf, roundsOf, blockCounts, blockRounds, emptyTC, limitOf}
 use Rattle.trace.specs.Fields.{voteOf, timeoutOf, blockOf, tcRoundOf, tcHighOf}

@@ -6,7 +6,8 @@ use Prim.Native.Nat.{ℕ, max, _+_, _≤_, _<_}
 use native.Mathlib.Omega.{arith}
 use borrow.Author.Tests.{lt-ltb, le-ltb, eq-eqb, ne-eqb}
 use Rattle.certificates.specs.Num.{numAt}
-use Rattle.trace.specs.Layout.{signersMax, roundMax, tcPart, tcRounds, tcAt, largest, largestHigh}
+use Rattle.certificates.specs.Numbers.{roundMax}
+use Rattle.trace.specs.Layout.{signersMax, tcPart, tcRounds, tcAt, largest, largestHigh}
 use Rattle.trace.specs.Form.{anyAbove}
 use Rattle.trace.specs.Limits.{countsOf, roundsOf, blockCounts, blockRounds, emptyTC, bounded, limitOf}
 use Rattle.trace.specs.declared.events.Kind.{Kind}

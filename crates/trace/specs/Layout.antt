@@ -1,5 +1,5 @@
 -- 01, The trace form: "Parts." A record here is what follows the length: kind 2, then the body. What a record does not have reads as 0.
---     signersMax, roundMax                                the most signers of a list, the highest round
+--     signersMax                                          the most signers of a list
 --     qcRound, qcVerdict, qcCount, qcSize, qcPart r at    of the QC that starts at a place of the record r
 --     tcRound, tcVerdict, tcCount, tcSize, tcPart r at    of the TC that starts there
 --     placeIn, highIn t i                                 place and high round of entry i of the TC t
@@ -12,7 +12,7 @@
 --     largestHigh t                                       the largest high round over all entries of a TC
 --     highsOf t                                           the high round of each place, 0 for one without an entry
 --     highsUpTo t n                                       .. by the first n entries
-use Prim.Native.Nat.{ℕ, zero, suc, max, _+_, _-_, _*_, _^_}
+use Prim.Native.Nat.{ℕ, zero, suc, max, _+_, _-_, _*_}
 use mathlib.Core.Bool.{cond}
 use mathlib.Core.List.{List, [], _∷_}
 use lib.ListN.{length, getD, take, drop, set, replicate}
@@ -23,10 +23,6 @@ use Rattle.certificates.specs.Num.{numAt}
 -- "a signer list above 64"
 abbrev pub signersMax : ℕ
 signersMax = limits.membersMax
-
--- "any round in the record above 2^62"
-abbrev pub roundMax : ℕ
-roundMax = 2 ^ 62
 
 -- "QC: hash 32, round 8, verdict 1, count 2, places 2 each."
 abbrev pub qcRound : List ℕ → ℕ → ℕ

@@ -9,7 +9,8 @@ use mathlib.Core.Bool.{Bool, false, cond}
 use mathlib.Core.List.{List, [], _∷_}
 use lib.Dec.{ltb, eqb}
 use Rattle.certificates.specs.Num.{numAt}
-use Rattle.trace.specs.Layout.{signersMax, roundMax, qcRound, qcCount, tcCount, tcRounds, blockQC, timeoutQC, tcBody, tcAt}
+use Rattle.certificates.specs.Numbers.{roundMax}
+use Rattle.trace.specs.Layout.{signersMax, qcRound, qcCount, tcCount, tcRounds, blockQC, timeoutQC, tcBody, tcAt}
 use Rattle.trace.specs.Form.{anyAbove}
 use Rattle.trace.specs.declared.events.Kind.{Kind}
 use Rattle.trace.specs.declared.events.Kind.the-variants.{Bad, Start, Propose, Vote, Timeout, Tc, Loopback, Tick}

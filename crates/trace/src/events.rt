@@ -15,11 +15,15 @@ use crate::part::after;
 use crate::part::byte_at;
 use crate::part::first;
 use crate::record::RECORD_MAX;
+use certificates::error::EMPTY_TC;
+use certificates::error::LIST_TOO_LONG;
+use certificates::error::ROUND_TOO_HIGH;
 use certificates::num::hash_at;
 use certificates::num::u16_at;
 use certificates::num::u64_at;
 use certificates::numbers::Hash;
 use certificates::numbers::Place;
+use certificates::numbers::ROUND_MAX;
 use certificates::numbers::Round;
 ghost use mathlib.Core.Path.{_≡_};
 ghost use mathlib.Core.Bool.{cond};
@@ -29,9 +33,6 @@ ghost use Rattle.trace.specs.Layout.{signersMax, qcPart, tcPart, flagAt,
 ghost use Rattle.trace.specs.Form.{isFormed, formOf, areMarks};
 ghost use Rattle.trace.specs.Limits.{bounded, limitOf};
 ghost use Rattle.trace.specs.Fields.{voteOf, timeoutOf, blockOf, tcRoundOf, tcHighOf};
-
-// The highest round that a record may name.
-pub const ROUND_MAX: u64 = 4611686018427387904;
 
 // The most signers that a certificate may list.
 pub const SIGNERS_MAX: u16 = 64;
@@ -335,10 +336,10 @@ fn bound(count: u16, round: u64) -> u16
     ensures { λ r. ⌜ r ≡ bounded count round ⌝ }
 {
     if SIGNERS_MAX < count {
-        return 20;
+        return LIST_TOO_LONG;
     }
     if ROUND_MAX < round {
-        return 19;
+        return ROUND_TOO_HIGH;
     }
     0
 }
@@ -374,7 +375,7 @@ fn loopback_limit(record: &[u8]) -> u16
         return block_limit(record);
     }
     if u16_at(record, tc + 9) == 0 {
-        return 32;
+        return EMPTY_TC;
     }
     block_limit(record)
 }
