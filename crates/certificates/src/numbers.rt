@@ -2,6 +2,7 @@
 ghost use mathlib.Core.Path.{_≡_};
 ghost use Rattle.certificates.specs.Numbers.{sameHash};
 
+#[repr(C)]
 pub struct Round(pub u64);
 
 // The highest round that a record may name.
@@ -15,6 +16,7 @@ pub struct Place(pub u16);
 pub struct Signers(pub u64);
 
 // A hash of 32 bytes, as four little-endian numbers.
+#[repr(C)]
 pub struct Hash {
     pub a: u64,
     pub b: u64,

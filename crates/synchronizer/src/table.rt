@@ -10,7 +10,9 @@ ghost use lib.ListN.{length, set};
 ghost use Rattle.synchronizer.specs.Table.{blank, slotAt, fits, lowest, wantAny, wantFree, wantDigest, placeOf, stored, storeAnswer, cleared};
 ghost use Rattle.synchronizer.specs.Parts.{placed};
 
-// A block as it is kept. A slot that is not used holds nothing.
+// A block as it is kept. A slot that is not used holds nothing. It is laid out as in C: a host lends
+// slices of it.
+#[repr(C)]
 pub struct Slot {
     pub used: bool,
     pub digest: Hash,
