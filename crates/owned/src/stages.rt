@@ -31,8 +31,6 @@ pub struct Opened {
 pub fn open(out: &mut [u8], input: &[u8], r: Replica, slots: usize) -> Opened
     ensures { λ o. ⌜ Opens r slots (now (input .entry)) (now (out .entry)) o (now (out .exit)) ⌝ }
 {
-    let seat = r.seat;
-    let core = r.core;
     let mut stakes = r.stakes;
     let mut votes = r.votes;
     let mut timeouts = r.timeouts;
@@ -42,8 +40,8 @@ pub fn open(out: &mut [u8], input: &[u8], r: Replica, slots: usize) -> Opened
         &mut timeouts,
         out,
         input,
-        seat,
-        core,
+        r.seat,
+        r.core,
         slots,
     );
     Opened {
