@@ -1,0 +1,76 @@
+-- A run of one replica: a START that was taken, and then any events, refused ones too. Each is a step of the definition, from the record and
+-- the table that the one before left.
+--     Event              the bytes of a record, and the room that is lent for its output
+--     stepOn w e         one event
+--     results w es       what each of the events es gives, from the world w on
+--     worldAfter w es    the world that they leave
+--     outsOf w es        all that they write, in order
+--     Begun w e          the event e is a START that was taken
+--     Run                a run; `events` of it are those after START
+--     origin r           the world that START left
+--     end r              the world that the run leaves
+--     outputs r          all that the run writes, in order
+--     Written a rs       the record a stands in the list rs
+--     Behind a b rs      in the list rs the record b stands behind the record a
+use Prim.Native.Nat.{ℕ}
+use mathlib.Core.List.{List, [], _∷_, _++_}
+use mathlib.Core.Path.{_≡_}
+use Rattle.trace.specs.declared.events.Kind.{Kind}
+use Rattle.trace.specs.Form.{formOf}
+use Rattle.outputs.specs.Records.{Rec}
+use Rattle.replica.specs.Step.{World, Result, stepped}
+
+pub record Event : Type 0 where
+  pub room : ℕ
+  pub bytes : List ℕ
+
+abbrev pub stepOn : World → Event → Result
+stepOn w e = stepped w (e .room) (e .bytes)
+
+unfoldable pub results : World → List Event → List Result
+results w [] = []
+results w (e ∷ es) = stepOn w e ∷ results (stepOn w e .world) es
+
+unfoldable pub worldAfter : World → List Event → World
+worldAfter w [] = w
+worldAfter w (e ∷ es) = worldAfter (stepOn w e .world) es
+
+unfoldable pub outsOf : World → List Event → List Rec
+outsOf w [] = []
+outsOf w (e ∷ es) = stepOn w e .outs ++ outsOf (stepOn w e .world) es
+
+-- ---- a run
+
+-- START's only answer that is no refusal is 0
+pub record Begun (w : World) (e : Event) : Type 0 where
+  pub start : formOf (e .bytes) ≡ Kind.Start
+  pub taken : stepOn w e .answer ≡ 0
+
+-- `lent` is the memory as it was before START
+pub record Run : Type 0 where
+  pub lent : World
+  pub start : Event
+  pub begun : Begun lent start
+  pub events : List Event
+
+abbrev pub origin : Run → World
+origin r = stepOn (r .lent) (r .start) .world
+
+abbrev pub end : Run → World
+end r = worldAfter (origin r) (r .events)
+
+abbrev pub outputs : Run → List Rec
+outputs r = stepOn (r .lent) (r .start) .outs ++ outsOf (origin r) (r .events)
+
+-- ---- records in a list
+
+pub record Written (a : Rec) (rs : List Rec) : Type 0 where
+  pub before : List Rec
+  pub rest : List Rec
+  pub is : rs ≡ before ++ (a ∷ rest)
+
+pub record Behind (a b : Rec) (rs : List Rec) : Type 0 where
+  pub before : List Rec
+  pub between : List Rec
+  pub rest : List Rec
+  pub is : rs ≡ before ++ (a ∷ between ++ (b ∷ rest))
