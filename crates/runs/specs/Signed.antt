@@ -27,9 +27,9 @@ use Rattle.outputs.specs.Records.{Rec, vote, timeout, tc, make, makeWith, commi
 use Rattle.replica.specs.Step.{committee}
 use Rattle.runs.specs.Runs.{Run, origin, outputs, Written}
 
-unfoldable pub Every : (Rec → Type 0) → List Rec → Type 0
-Every P [] = Unit {0}
-Every P (a ∷ rs) = P a × Every P rs
+pub data Every (P : Rec → Type 0) : List Rec → Type 0 where
+  none : Every P []
+  more : {a : Rec} {rs : List Rec} → P a → Every P rs → Every P (a ∷ rs)
 
 -- ---- certificates as bytes
 
