@@ -12,6 +12,7 @@ use mathlib.Core.Path.{_≡_, refl, sym, ap, _∙_}
 use native.Mathlib.Nat.{zero-add}
 use native.Mathlib.Omega.{arith}
 use borrow.Author.Tests.{eq-eqb, ne-eqb, lt-ltb, le-ltb, ltb-true, ltb-false, eqb-true}
+use lib.Count.{ones}
 use lib.Dec.{eqb, ltb, lit<}
 use lib.ListN.{length, getD, length-append}
 use lib.Seq.{take-length}
@@ -30,7 +31,7 @@ use Rattle.outputs.specs.Fields.{Field, number, hash, digits, hashBytes, bytesO
 use Rattle.outputs.specs.Records.{placesFrom, placesOf, entries}
 use Rattle.outputs.proofs.Writes.{length-digits}
 use Rattle.outputs.proofs.ReadBack.{num-back}
-use Rattle.outputs.proofs.Places.{places-most}
+use Rattle.outputs.proofs.Places.{places-most, length-places}
 use Rattle.replica.specs.Step.{newCore}
 use Rattle.runs.specs.Signed.{qcBytes, tcBytes, Accepts, GoodQC, GoodTC}
 use Rattle.runs.proofs.Tallied.{Quorate}
@@ -190,6 +191,10 @@ places-small w i h = omega (arith, below (ltb 64 (getD (placesFrom 64 0 w) i 0))
 abbrev count : Signers → ℕ
 count s = length (placesOf (s .0))
 
+count-ones : (m : List ℕ) (s : Signers) → Quorate m s → ones (s .0) ≡ count s
+unfolding placesOf
+count-ones m s k = sym (length-places 64 0 (s .0) (k .word))
+
 module _ (f : Form) (m : List ℕ) (s : Signers) (k : Quorate m s) (front list : List ℕ) where
   module _ {part : List ℕ} (is : part ≡ front ++ (digits 1 1 ++ (digits 2 (count s) ++ list))) (at-front : length front ≡ f .at) (size : length list ≡ f .stride * count s)
       (listed : numsAt 2 (f .stride) (count s) ((front ++ (digits 1 1 ++ digits 2 (count s))) ++ list) (f .at + 3) ≡ placesOf (s .0)) where
@@ -236,7 +241,7 @@ module _ (m : List ℕ) where
       let ps = placesOf (s .0) in
       let front = hashBytes (q .hash) ++ digits 8 (q .round .0) in
       let past = digits 1 1 ++ (digits 2 (count s) ++ bytesOf (map (number 2) ps)) in
-      (_, accepted-bytes qcForm m s k front (bytesOf (map (number 2) ps)) (sym (append-assoc (hashBytes (q .hash)) (digits 8 (q .round .0)) past)) (hash-length q) (twos-length ps)
+      rw (count-ones m s k) (_, accepted-bytes qcForm m s k front (bytesOf (map (number 2) ps)) (sym (append-assoc (hashBytes (q .hash)) (digits 8 (q .round .0)) past)) (hash-length q) (twos-length ps)
       (qc-places-at ps (front ++ (digits 1 1 ++ digits 2 (count s))) (three-more front (count s) (hash-length q)) (places-small (s .0))))
 
   -- a QC that a quorum of members with stake backs is accepted
@@ -248,7 +253,7 @@ module _ (m : List ℕ) where
   unfolding tcBytes bytesOf
   quorate-tc round s highs k =
       let ps = placesOf (s .0) in
-      rw tc-part (_, accepted-bytes tcForm m s k (digits 8 round) (bytesOf (entries ps highs)) refl (length-digits 8 round) (entries-length ps highs)
+      rw (tc-part, count-ones m s k) (_, accepted-bytes tcForm m s k (digits 8 round) (bytesOf (entries ps highs)) refl (length-digits 8 round) (entries-length ps highs)
       (tc-places-at highs ps (digits 8 round ++ (digits 1 1 ++ digits 2 (count s))) (three-more (digits 8 round) (count s) (length-digits 8 round)) (places-small (s .0))))
 
   -- ---- a QC that is genesis, or backed

@@ -12,6 +12,7 @@ use Prim.Native.Nat.{ℕ, _*_, _≤_, _<_}
 use mathlib.Core.Bool.{true, false}
 use mathlib.Core.List.{List, [], _∷_, map}
 use mathlib.Core.Path.{_≡_}
+use lib.Count.{ones}
 use lib.ListN.{length}
 use Rattle.certificates.specs.declared.numbers.Hash.{Hash}
 use Rattle.certificates.specs.declared.numbers.Signers.{Signers}
@@ -33,14 +34,14 @@ pub data Every (P : Rec → Type 0) : List Rec → Type 0 where
 
 -- ---- certificates as bytes
 
--- "QC: hash 32, round 8, verdict 1, count 2, places 2 each."
+-- "QC: hash 32, round 8, verdict 1, count 2, places 2 each."; "the number of signers is the count of ones in that word"
 unfoldable pub qcBytes : QC → List ℕ
 qcBytes q =
-    bytesOf (hash (q .hash) ∷ number 8 (q .round .0) ∷ number 1 1 ∷ number 2 (length (placesOf (q .signers .0))) ∷ map (number 2) (placesOf (q .signers .0)))
+    bytesOf (hash (q .hash) ∷ number 8 (q .round .0) ∷ number 1 1 ∷ number 2 (ones (q .signers .0)) ∷ map (number 2) (placesOf (q .signers .0)))
 
--- "TC: round 8, verdict 1, count 2, then place 2 and high round 8 each."
+-- "TC: round 8, verdict 1, count 2, then place 2 and high round 8 each.": the body of the record 0x0103 with its result put in
 unfoldable pub tcBytes : ℕ → ℕ → List ℕ → List ℕ
-tcBytes round names highs = bytesOf (number 8 round ∷ number 1 1 ∷ number 2 (length (placesOf names)) ∷ entries (placesOf names) highs)
+tcBytes round names highs = bytesOf (number 8 round ∷ number 1 1 ∷ number 2 (ones names) ∷ entries (placesOf names) highs)
 
 -- whether a check accepts
 abbrev pub Accepts : Checked → Type 0
