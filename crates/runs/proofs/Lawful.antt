@@ -7,7 +7,7 @@
 --     lawful-voting, lawful-tick, lawful-processed, lawful-proposed    the vote for a block, TICK, LOOPBACK, PROPOSE
 use Prim.Native.Nat.{ℕ, suc, _+_, _≤_, _<_}
 use mathlib.Core.Bool.{Bool, true, false, cond}
-use mathlib.Core.List.{List, [], _∷_, _++_, map}
+use mathlib.Core.List.{List, [], _∷_, _++_, map, append-nil}
 use mathlib.Core.Path.{_≡_, refl, sym, _∙_, ap}
 use native.Mathlib.Nat.{le-refl, le-trans}
 use native.Mathlib.Omega.{arith}
@@ -28,7 +28,7 @@ use Rattle.aggregator.specs.Tallies.{voteTallies, timeoutTallies, votesLength, 
 use Rattle.synchronizer.specs.declared.table.Slot.{Slot}
 use Rattle.synchronizer.specs.declared.ancestors.Ancestors.{Ancestors}
 use Rattle.synchronizer.specs.declared.settle.Work.{Work}
-use Rattle.synchronizer.specs.Error.{waitParent}
+use Rattle.synchronizer.specs.Error.{waitParent, tableFull}
 use Rattle.synchronizer.specs.Table.{placeOf, stored, ancestorsOf}
 use Rattle.synchronizer.specs.Walk.{commitOf, noCommit}
 use Rattle.synchronizer.specs.Settle.{Settlement, answered, isTwoChain, cleanOf, commitIf, commitRec, linkedOf, waitOf, processedBy, processedOf, settledOf}
@@ -51,7 +51,7 @@ use Rattle.replica.specs.Blocks.{workFor, settledFor, settledStep, afterSettled
 use Rattle.runs.specs.Runs.{only, isSigned, isCommit, signedIn, deliveredIn}
 use Rattle.runs.proofs.Lists.{only-append, only-head, only-skip}
 use Rattle.runs.proofs.Marks.{later}
-use Rattle.runs.proofs.Plain.{roundIn, highIn, Silent, Plain, plain-quiet, plain-own-vote, plain-own-timeout, plain-proposal}
+use Rattle.runs.proofs.Plain.{roundIn, highIn, Silent, Plain, silent-none, plain-quiet, plain-own-vote, plain-own-timeout, plain-proposal}
 
 abbrev pub votedIn : Core → ℕ
 votedIn c = c .«last_voted_round» .0
@@ -292,3 +292,180 @@ lawful-tick total m own low s long wide = cases (ltb roundMax (s .core .round .0
     cases true = lawful-plain (keeps-none total s) (plain-quiet s)
     cases false =
         lawful-ticked total s (ownTimeout m own (ticked s .state) .left) (own-timeout-keeps total m own low (ticked s .state) long wide) (plain-own-timeout m own (ticked s .state))
+
+-- ---- what the table of blocks gives
+
+pub record Settled (low : ℕ) (p : Settlement) : Type 0 where
+  pub signs : signedIn (p .outs) ≡ []
+  pub blocks : List Slot
+  pub are : deliveredIn (p .outs) ≡ map commitRec blocks
+  pub rise : Rising low blocks (p .last)
+
+settled-none : (n : ℕ) (t : List Slot) (low : ℕ) (outs : List Rec) → Silent outs → Settled low (answered n t low outs)
+unfolding Rising
+settled-none n t low outs h = record { signs = h .signs; blocks = []; are = h .delivers; rise = refl }
+
+commits-signed : (bs : List Slot) → signedIn (map commitRec bs) ≡ []
+unfolding only
+commits-signed [] = refl
+commits-signed (b ∷ bs) = commits-signed bs
+
+commits-delivered : (bs : List Slot) → deliveredIn (map commitRec bs) ≡ map commitRec bs
+unfolding only
+commits-delivered [] = refl
+commits-delivered (b ∷ bs) = ap (λ (l : List Rec). commitRec b ∷ l) (commits-delivered bs)
+
+silent-clean : (b0 b1 b : Slot) → Silent (cleanOf b0 b1 b)
+unfolding cleanOf only
+silent-clean b0 b1 b = cases (isTwoChain b0 b1)
+  where
+    cases : (t : Bool) → Silent (cleanProposer (b0 .digest) (b1 .digest) (b .digest) ∷ cond t (cleanMempool (b0 .round .0) ∷ []) [])
+    cases true = record { signs = refl; delivers = refl }
+    cases false = record { signs = refl; delivers = refl }
+
+silent-wait : (w : Work) (a : Ancestors) → Silent (waitOf w a)
+unfolding waitOf only
+silent-wait w a = cases (eqb (a .answer) waitParent)
+  where
+    cases : (t : Bool) → Silent (cond t (sync (w .block .parent) (w .block .digest) (w .author .0) ∷ []) [])
+    cases true = record { signs = refl; delivers = refl }
+    cases false = record { signs = refl; delivers = refl }
+
+commit-if-rising : (t : List Slot) (b0 b1 : Slot) (low : ℕ) → Rising low (commitIf t b0 b1 low .blocks) (commitIf t b0 b1 low .last)
+unfolding commitIf Rising
+commit-if-rising t b0 b1 low = cases (isTwoChain b0 b1)
+  where
+    cases : (u : Bool) → Rising low (cond u (commitOf t b0 low) (noCommit low) .blocks) (cond u (commitOf t b0 low) (noCommit low) .last)
+    cases true = commit-rising t b0 low
+    cases false = refl
+
+settled-linked : (t : List Slot) (b b0 b1 : Slot) (low : ℕ) → Settled low (linkedOf t b b0 b1 low)
+unfolding linkedOf
+settled-linked t b b0 b1 low =
+    let bs = commitIf t b0 b1 low .blocks in
+    let c = silent-clean b0 b1 b in
+    record {
+      signs = only-append isSigned (cleanOf b0 b1 b) (map commitRec bs) ∙ rw (c .signs) (commits-signed bs);
+      blocks = bs;
+      are = only-append isCommit (cleanOf b0 b1 b) (map commitRec bs) ∙ rw (c .delivers) (commits-delivered bs);
+      rise = commit-if-rising t b0 b1 low;
+    }
+
+settled-by : (t : List Slot) (w : Work) (a : Ancestors) → Settled (w .last .0) (processedBy t w a)
+unfolding processedBy
+settled-by t w a = cases (eqb (a .answer) 0) (ltb (placeOf t (w .block)) (length t))
+  where
+    cases : (u v : Bool) → Settled (w .last .0)
+        (cond u (cond v (linkedOf (stored t (w .block)) (w .block) (a .b0) (a .b1) (w .last .0)) (answered tableFull t (w .last .0) [])) (answered (a .answer) t (w .last .0) (waitOf w a)))
+    cases true true = settled-linked (stored t (w .block)) (w .block) (a .b0) (a .b1) (w .last .0)
+    cases true false = settled-none tableFull t (w .last .0) [] silent-none
+    cases false v = settled-none (a .answer) t (w .last .0) (waitOf w a) (silent-wait w a)
+
+pub settled-for : (s : State) (t : List Slot) (b : Block) → Settled (committedIn (s .core)) (settledFor s t b)
+unfolding settledFor
+settled-for s t b =
+    let w = workFor b (s .core .«last_committed_round») 0 in
+    rw (settled-block t w refl) (settled-by t w (ancestorsOf t (w .block)))
+
+-- ---- LOOPBACK and PROPOSE
+
+pub record Treats (total : ℕ) (b : Block) (s : State) (a : Step) : Type 0 where
+  pub stays : Stays total s (a .state)
+  pub casts : Casts b (s .core) a
+  pub delivers : Delivers (committedIn (s .core)) a
+  pub below : highIn (s .core) < roundIn (s .core) → highIn (a .state .core) < roundIn (a .state .core)
+  pub within : votedIn (s .core) ≤ roundIn (s .core) → votedIn (a .state .core) ≤ roundIn (a .state .core)
+
+-- records that sign nothing, in front
+casts-after : {b : Block} {c : Core} (a : Step) (x : Step) → signedIn (a .outs) ≡ [] → votedIn (a .state .core) ≡ votedIn c → Casts b (a .state .core) x
+    → Casts b c (record { state = x .state; outs = a .outs ++ x .outs })
+casts-after a x e v (skips f w) = skips (only-append isSigned (a .outs) (x .outs) ∙ rw (e, f)) (w ∙ v)
+casts-after a x e v (casts to f n r w) = casts to (only-append isSigned (a .outs) (x .outs) ∙ rw (e, f)) (rw v at n) r w
+
+treats-settled : (total : ℕ) (b : Block) (s : State) (p : Settlement) → Settled (committedIn (s .core)) p → Treats total b s (settledStep s p)
+treats-settled total b s p h =
+    record {
+      stays = stays-core total s (withCommitted (s .core) (p .last)) refl refl;
+      casts = skips (h .signs) refl;
+      delivers = record { blocks = h .blocks; are = h .are; rise = h .rise };
+      below = λ k. k;
+      within = λ k. k;
+    }
+
+-- and then the vote
+treats-votes : (total : ℕ) (b : Block) (s : State) (p : Settlement) (x : Step) → Settled (committedIn (s .core)) p → Votes total b (settledStep s p .state) x
+    → Treats total b s (record { state = x .state; outs = p .outs ++ x .outs })
+treats-votes total b s p x h v =
+    record {
+      stays = stays-then (stays-core total s (withCommitted (s .core) (p .last)) refl refl) (v .stays);
+      casts = casts-after (settledStep s p) x (h .signs) refl (v .casts);
+      delivers =
+          record {
+            blocks = h .blocks;
+            are = only-append isCommit (p .outs) (x .outs) ∙ rw (v .delivers) (append-nil _ ∙ h .are);
+            rise = rw (v .committed) (h .rise);
+          };
+      below = v .below;
+      within = v .within;
+    }
+
+module _ (total : ℕ) (m : List ℕ) (own : ℕ) (low : quorumOf m ≤ suc total) (b : Block) (t : List Slot) where
+  pub treats-processed : (s : State) → length (s .votes) ≡ votesLength → length (s .timeouts) ≡ timeoutsLength → Treats total b s (processed m own t b s .left)
+  unfolding processed afterSettled
+  treats-processed s long wide = cases (eqb (settledFor s t b .answer) 0)
+    where
+      cases : (u : Bool) → Treats total b s
+          (cond u (after (settledStep s (settledFor s t b)) (voting m own b)) (done (settledFor s t b .answer) (settledStep s (settledFor s t b))) .left)
+      cases true =
+          treats-votes total b s (settledFor s t b) (voting m own b (settledStep s (settledFor s t b) .state) .left) (settled-for s t b)
+          (votes-voting total m own low b (settledStep s (settledFor s t b) .state) long wide)
+      cases false = treats-settled total b s (settledFor s t b) (settled-for s t b)
+
+  -- what votes for nothing and commits nothing, in front
+  treats-after : (s : State) (a x : Step) → Keeps total s (a .state) → Plain (s .core) a → Treats total b (a .state) x → Treats total b s (record { state = x .state; outs = a .outs ++ x .outs })
+  treats-after s a x k p h =
+      let same : votedIn (a .state .core) ≡ votedIn (s .core) = ap (λ r. r .0) (k .voted) in
+      let last : committedIn (a .state .core) ≡ committedIn (s .core) = ap (λ r. r .0) (k .committed) in
+      record {
+        stays = stays-then (stays-keeps k) (h .stays);
+        casts = casts-after a x (p .silent .signs) same (h .casts);
+        delivers =
+            record {
+              blocks = h .delivers .blocks;
+              are = only-append isCommit (a .outs) (x .outs) ∙ rw (p .silent .delivers) (h .delivers .are);
+              rise = rw last at (h .delivers .rise);
+            };
+        below = λ u. h .below (p .below u);
+        within = λ u. h .within (omega (arith, k .round));
+      }
+
+  treats-plain : (s : State) (a : Step) → Keeps total s (a .state) → Plain (s .core) a → Treats total b s a
+  treats-plain s a k p =
+      let l = lawful-plain k p in
+      record {
+        stays = l .stays;
+        casts = skips (p .silent .signs) (ap (λ r. r .0) (k .voted));
+        delivers = l .delivers;
+        below = l .below;
+        within = l .within;
+      }
+
+  pub treats-proposed : (s : State) → length (s .votes) ≡ votesLength → length (s .timeouts) ≡ timeoutsLength → (r : List ℕ) (payload : ℕ)
+      → Treats total b s (goingOn m own t b (proposalOf m s b r payload) .left)
+  unfolding goingOn
+  treats-proposed s long wide r payload = cases (proposalOf m s b r payload) (proposal-keeps total s long wide m b r payload) (plain-proposal m s b r payload)
+    where
+      by-goes : (u : Bool) (o : Outcome) → Keeps total s (o .left .state) → Plain (s .core) (o .left) → Treats total b s (cond u (after (o .left) (processed m own t b)) o .left)
+      by-goes true o k p =
+          treats-after s (o .left) (processed m own t b (o .left .state) .left) k p (treats-processed (o .left .state) (k .votes ∙ long) (k .timeouts ∙ wide))
+      by-goes false o k p = treats-plain s (o .left) k p
+
+      cases : (q : Proposal) → Keeps total s (q .out .left .state) → Plain (s .core) (q .out .left) → Treats total b s (cond (q .goesOn) (after (q .out .left) (processed m own t b)) (q .out) .left)
+      cases q k p = by-goes (q .goesOn) (q .out) k p
+
+signs-casts : {b : Block} {c : Core} {a : Step} → Casts b c a → Signs c a
+signs-casts (skips e v) = nothing e v
+signs-casts {b} (casts to e n r v) = ballot to b e n r v
+
+pub lawful-treats : {total : ℕ} {b : Block} {s : State} {a : Step} → Treats total b s a → Lawful total s a
+lawful-treats h = record { stays = h .stays; signs = signs-casts (h .casts); delivers = h .delivers; below = h .below; within = h .within }

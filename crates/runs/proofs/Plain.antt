@@ -59,7 +59,7 @@ pub record Plain (c : Core) (a : Step) : Type 0 where
 
 -- ---- steps
 
-silent-none : Silent []
+pub silent-none : Silent []
 unfolding only
 silent-none = record { signs = refl; delivers = refl }
 
