@@ -2,3 +2,4 @@ pub mod Lists
 pub mod Marks
 pub mod Plain
 pub mod Lawful
+pub mod Steps
