@@ -3,3 +3,5 @@ pub mod Marks
 pub mod Plain
 pub mod Lawful
 pub mod Steps
+pub mod Rounds
+pub mod Theorems
