@@ -5,3 +5,4 @@ pub mod Lawful
 pub mod Steps
 pub mod Rounds
 pub mod Theorems
+pub mod Calls

@@ -264,9 +264,9 @@ new-shaped r t e =
 new-light : (t : Stake) → lightIn (newState .votes) (newState .timeouts) (Total t) ≡ Total t
 new-light t =
     let v : heavy voteWidth voteTallies (newState .votes) (t .0) ≡ false =
-        light-heavy voteWidth voteTallies (newState .votes) (t .0) (zeros-light voteWidth voteTallies votesLength (t .0) (omega arith)) in
+    light-heavy voteWidth voteTallies (newState .votes) (t .0) (zeros-light voteWidth voteTallies votesLength (t .0) (omega arith)) in
     let o : heavy timeoutWidth timeoutTallies (newState .timeouts) (t .0) ≡ false =
-        light-heavy timeoutWidth timeoutTallies (newState .timeouts) (t .0) (zeros-light timeoutWidth timeoutTallies timeoutsLength (t .0) (omega arith)) in
+    light-heavy timeoutWidth timeoutTallies (newState .timeouts) (t .0) (zeros-light timeoutWidth timeoutTallies timeoutsLength (t .0) (omega arith)) in
     rw (v, o)
 
 new-started : (r : List ℕ) (t : Stake) → setupAt (drop 2 r) ≡ Total t → startedOf (newSeat r) (newStakes r) (newState .votes) (newState .timeouts) ≡ Total t
