@@ -210,7 +210,7 @@ module _ (f : Form) (m : List ℕ) (s : Signers) (k : Quorate m s) (front list :
     unfolding countOf
     count-is =
         let l : length (front ++ digits 1 1) ≡ f .at + 1 = rw (length-append, length-digits, at-front) in
-          let e : part ≡ (front ++ digits 1 1) ++ (digits 2 (count s) ++ list) = is ∙ sym (append-assoc front (digits 1 1) (digits 2 (count s) ++ list)) in
+        let e : part ≡ (front ++ digits 1 1) ++ (digits 2 (count s) ++ list) = is ∙ sym (append-assoc front (digits 1 1) (digits 2 (count s) ++ list)) in
         rw (e, ← l) (num-back 2 (count s) (front ++ digits 1 1) list (omega (arith, few)))
 
     places-are : placesIn f part ≡ placesOf (s .0)
@@ -241,8 +241,11 @@ module _ (m : List ℕ) where
       let ps = placesOf (s .0) in
       let front = hashBytes (q .hash) ++ digits 8 (q .round .0) in
       let past = digits 1 1 ++ (digits 2 (count s) ++ bytesOf (map (number 2) ps)) in
-      rw (count-ones m s k) (_, accepted-bytes qcForm m s k front (bytesOf (map (number 2) ps)) (sym (append-assoc (hashBytes (q .hash)) (digits 8 (q .round .0)) past)) (hash-length q) (twos-length ps)
-      (qc-places-at ps (front ++ (digits 1 1 ++ digits 2 (count s))) (three-more front (count s) (hash-length q)) (places-small (s .0))))
+      rw (count-ones m s k) (
+        _,
+        accepted-bytes qcForm m s k front (bytesOf (map (number 2) ps)) (sym (append-assoc (hashBytes (q .hash)) (digits 8 (q .round .0)) past)) (hash-length q) (twos-length ps)
+            (qc-places-at ps (front ++ (digits 1 1 ++ digits 2 (count s))) (three-more front (count s) (hash-length q)) (places-small (s .0))),
+      )
 
   -- a QC that a quorum of members with stake backs is accepted
   pub quorate-qc : (q : QC) → Quorate m (q .signers) → Accepts (qcCheck m (quorumOf m) (qcBytes q))
@@ -253,8 +256,11 @@ module _ (m : List ℕ) where
   unfolding tcBytes bytesOf
   quorate-tc round s highs k =
       let ps = placesOf (s .0) in
-      rw (tc-part, count-ones m s k) (_, accepted-bytes tcForm m s k (digits 8 round) (bytesOf (entries ps highs)) refl (length-digits 8 round) (entries-length ps highs)
-      (tc-places-at highs ps (digits 8 round ++ (digits 1 1 ++ digits 2 (count s))) (three-more (digits 8 round) (count s) (length-digits 8 round)) (places-small (s .0))))
+      rw (tc-part, count-ones m s k) (
+        _,
+        accepted-bytes tcForm m s k (digits 8 round) (bytesOf (entries ps highs)) refl (length-digits 8 round) (entries-length ps highs)
+            (tc-places-at highs ps (digits 8 round ++ (digits 1 1 ++ digits 2 (count s))) (three-more (digits 8 round) (count s) (length-digits 8 round)) (places-small (s .0))),
+      )
 
   -- ---- a QC that is genesis, or backed
 
