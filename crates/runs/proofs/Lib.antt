@@ -12,3 +12,4 @@ pub mod Kept
 pub mod Handled
 pub mod Invariant
 pub mod OneDigest
+pub mod Example
