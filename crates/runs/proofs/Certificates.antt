@@ -9,23 +9,26 @@ use mathlib.Core.Bool.{Bool, true, false, cond, _||_}
 use mathlib.Core.List.{List, [], _∷_, _++_, map, append-assoc, append-nil}
 use mathlib.Core.Logic.{_≢_, _⊎_, inl, inr, ⊎-elim}
 use mathlib.Core.Path.{_≡_, refl, sym, ap, _∙_}
-use native.Mathlib.Nat.{zero-add}
+use native.Mathlib.Nat.{zero-add, pow-suc}
 use native.Mathlib.Omega.{arith}
 use borrow.Author.Tests.{eq-eqb, ne-eqb, lt-ltb, le-ltb, ltb-true, ltb-false, eqb-true}
+use lib.Bits.{or-lt}
 use lib.Count.{ones}
 use lib.Dec.{eqb, ltb, lit<}
 use lib.ListN.{length, getD, length-append}
+use lib.Pow.{pow-lt}
 use lib.Seq.{take-length}
 use Rattle.certificates.specs.declared.numbers.Signers.{Signers}
 use Rattle.certificates.specs.declared.messages.QC.{QC}
 use Rattle.certificates.specs.declared.messages.Checked.the-variants.{Accepted}
 use Rattle.certificates.specs.Config.{membersMax, quorumOf}
 use Rattle.certificates.specs.Num.{le, numAt, hashAt, numsAt}
-use Rattle.certificates.specs.Signers.{bitOf, isIn, words, noSigners, signersOf, member}
+use Rattle.certificates.specs.Signers.{bitOf, isIn, words, noSigners, withSigner, signersFrom, signersOf, member}
 use Rattle.certificates.specs.Messages.{Form, qcForm, tcForm, isGenesis, verdictIn, countOf, placesIn, checkPart, qcCheck, tcCheck, equalsGenesis, embeddedCheck}
 use Rattle.certificates.proofs.Check.{Known}
 use Rattle.certificates.proofs.Places.{member-take, member-index}
-use Rattle.certificates.proofs.Accepted.{Distinct, named-accepted, qc-part, tc-part, embedded-part}
+use Rattle.certificates.proofs.Accepted.{Distinct, named-accepted, qc-part, tc-part, embedded-part, certified, walked-distinct}
+use Rattle.certificates.proofs.Sets.{in-low}
 use Rattle.certificates.proofs.Theorems.{genesis-accepted}
 use Rattle.outputs.specs.Fields.{Field, number, hash, digits, hashBytes, bytesOf}
 use Rattle.outputs.specs.Records.{placesFrom, placesOf, entries}
@@ -33,7 +36,7 @@ use Rattle.outputs.proofs.Writes.{length-digits}
 use Rattle.outputs.proofs.ReadBack.{num-back}
 use Rattle.outputs.proofs.Places.{places-most, length-places}
 use Rattle.replica.specs.Step.{newCore}
-use Rattle.runs.specs.Signed.{qcBytes, tcBytes, Accepts, GoodQC, GoodTC}
+use Rattle.runs.specs.Signed.{qcBytes, tcBytes, GoodQC, GoodTC}
 use Rattle.runs.proofs.Tallied.{Quorate}
 
 -- ---- the places of a word
@@ -149,7 +152,7 @@ module _ (highs : List ℕ) where
       let rest = bytesOf (entries ps highs) in
       let here : numAt 2 (xs ++ (digits 2 p ++ (digits 8 (getD highs p 0) ++ rest))) at ≡ p = rw e at (num-back 2 p xs (digits 8 (getD highs p 0) ++ rest) (h 0 (omega arith))) in
       let whole : xs ++ (digits 2 p ++ (digits 8 (getD highs p 0) ++ rest)) ≡ (xs ++ (digits 2 p ++ digits 8 (getD highs p 0))) ++ rest = simp append-assoc in
-      let next = tc-places-at ps (xs ++ (digits 2 p ++ digits 8 (getD highs p 0))) {at = at + 10} (rw (length-append, length-append, length-digits, length-digits) (omega arith)) (λ i l. h (suc i) (omega arith)) in
+      let next = tc-places-at ps (xs ++ (digits 2 p ++ digits 8 (getD highs p 0))) {at = at + 10} (rw (length-append, length-append, length-digits 2 p, length-digits 8 (getD highs p 0)) (omega arith)) (λ i l. h (suc i) (omega arith)) in
       rw here (ap (λ (r : List ℕ). p ∷ r) (rw whole next))
 
 qc-places-at : (ps xs : List ℕ) {at : ℕ} → length xs ≡ at → Small ps → numsAt 2 2 (length ps) (xs ++ bytesOf (map (number 2) ps)) at ≡ ps
@@ -185,6 +188,33 @@ places-small w i h = omega (arith, below (ltb 64 (getD (placesFrom 64 0 w) i 0))
         let z : _≡_ {A = Bool} true false = sym there ∙ none in
         let y : _≡_ {A = ℕ} 0 1 = cc in
         absurd (omega arith)
+
+-- ---- the signers that are accepted are those of the word
+
+word-same : (k a b : ℕ) → a < 2 ^ k → b < 2 ^ k → ((p : ℕ) → p < k → bitOf a p ≡ bitOf b p) → a ≡ b
+unfolding bitOf
+word-same zero a b h l e = omega arith
+word-same (suc k) a b h l e =
+    let halves : a / 2 ≡ b / 2 = word-same k (a / 2) (b / 2) (omega (arith, pow-suc 2 k)) (omega (arith, pow-suc 2 k)) (λ p i. e (suc p) (omega arith)) in
+    let low : a % 2 ≡ b % 2 = e 0 (omega arith) in
+    omega arith
+
+pub signers-word : (s : Signers) (ps : List ℕ) → s .0 < 2 ^ 64 → ((j : ℕ) → j < length ps → getD ps j 0 < 64) → signersFrom s ps .0 < 2 ^ 64
+unfolding signersFrom
+signers-word s [] h a = h
+signers-word s (p ∷ ps) h a =
+    signers-word (withSigner s p) ps (or-lt 64 (s .0) (2 ^ p) h (pow-lt (a 0 (omega arith)))) (λ j l. a (suc j) (omega arith))
+
+same-signers : (f : Form) (m part : List ℕ) (s : Signers) → Quorate m s → placesIn f part ≡ placesOf (s .0)
+    → checkPart f m (quorumOf m) part ≡ Accepted (signersOf (placesIn f part)) → checkPart f m (quorumOf m) part ≡ Accepted s
+unfolding signersOf
+same-signers f m part s k e h =
+    let t = signersOf (placesIn f part) in
+    let c = certified f m (quorumOf m) part t h in
+    let word : t .0 < 2 ^ 64 = signers-word noSigners (placesIn f part) (lit< tt) (λ j l. walked-distinct m (placesIn f part) (c .walked) .known j l .small) in
+    let bits : (p : ℕ) → p < 64 → bitOf (t .0) p ≡ bitOf (s .0) p = λ p l.
+    sym (in-low (t .0) [] p l) ∙ c .clean .bits p ∙ ap (λ (ps : List ℕ). cond (member p ps) 1 0) e ∙ sym (word-bits s p) ∙ in-low (s .0) [] p l in
+    h ∙ ap Accepted (ap (λ (x : ℕ). record { 0 = x }) (word-same 64 (t .0) (s .0) word (k .word) bits))
 
 -- ---- a certificate of a quorum is accepted, whatever stands before its result
 
@@ -222,9 +252,10 @@ module _ (f : Form) (m : List ℕ) (s : Signers) (k : Quorate m s) (front list :
     whole : f .at + 3 + f .stride * countOf f part ≤ length part
     whole = rw count-is (rw (is, length-append, length-append, length-append, length-digits 1 1, length-digits 2 (count s)) (omega (arith, at-front, size)))
 
-    accepted-bytes : checkPart f m (quorumOf m) part ≡ Accepted (signersOf (placesIn f part))
+    accepted-bytes : checkPart f m (quorumOf m) part ≡ Accepted s
     accepted-bytes =
-        named-accepted f m (quorumOf m) part s whole (rw places-are (quorate-distinct m s k)) (λ q. rw places-are (word-bits s q)) (k .quorum) verdict-yes
+        same-signers f m part s k places-are
+        (named-accepted f m (quorumOf m) part s whole (rw places-are (quorate-distinct m s k)) (λ q. rw places-are (word-bits s q)) (k .quorum) verdict-yes)
 
 three-more : (front : List ℕ) (n : ℕ) {at : ℕ} → length front ≡ at → length (front ++ (digits 1 1 ++ digits 2 n)) ≡ at + 3
 three-more front n e = rw (length-append, length-append, length-digits 1 1, length-digits 2 n, e)
@@ -234,21 +265,19 @@ unfolding hashBytes digits
 hash-length q = refl
 
 module _ (m : List ℕ) where
-  qc-part-accepted : (q : QC) → Quorate m (q .signers) → Accepts (checkPart qcForm m (quorumOf m) (qcBytes q))
+  qc-part-accepted : (q : QC) → Quorate m (q .signers) → checkPart qcForm m (quorumOf m) (qcBytes q) ≡ Accepted (q .signers)
   unfolding qcBytes bytesOf
   qc-part-accepted q k =
       let s = q .signers in
       let ps = placesOf (s .0) in
       let front = hashBytes (q .hash) ++ digits 8 (q .round .0) in
       let past = digits 1 1 ++ (digits 2 (count s) ++ bytesOf (map (number 2) ps)) in
-      rw (count-ones m s k) (
-        _,
-        accepted-bytes qcForm m s k front (bytesOf (map (number 2) ps)) (sym (append-assoc (hashBytes (q .hash)) (digits 8 (q .round .0)) past)) (hash-length q) (twos-length ps)
-            (qc-places-at ps (front ++ (digits 1 1 ++ digits 2 (count s))) (three-more front (count s) (hash-length q)) (places-small (s .0))),
-      )
+      rw (count-ones m s k)
+      (accepted-bytes qcForm m s k front (bytesOf (map (number 2) ps)) (sym (append-assoc (hashBytes (q .hash)) (digits 8 (q .round .0)) past)) (hash-length q) (twos-length ps)
+      (qc-places-at ps (front ++ (digits 1 1 ++ digits 2 (count s))) (three-more front (count s) (hash-length q)) (places-small (s .0))))
 
-  -- a QC that a quorum of members with stake backs is accepted
-  pub quorate-qc : (q : QC) → Quorate m (q .signers) → Accepts (qcCheck m (quorumOf m) (qcBytes q))
+  -- a QC that a quorum of members with stake backs is accepted, with its signers
+  pub quorate-qc : (q : QC) → Quorate m (q .signers) → qcCheck m (quorumOf m) (qcBytes q) ≡ Accepted (q .signers)
   quorate-qc q k = rw qc-part (qc-part-accepted q k)
 
   -- and a TC
@@ -256,11 +285,9 @@ module _ (m : List ℕ) where
   unfolding tcBytes bytesOf
   quorate-tc round s highs k =
       let ps = placesOf (s .0) in
-      rw (tc-part, count-ones m s k) (
-        _,
-        accepted-bytes tcForm m s k (digits 8 round) (bytesOf (entries ps highs)) refl (length-digits 8 round) (entries-length ps highs)
-            (tc-places-at highs ps (digits 8 round ++ (digits 1 1 ++ digits 2 (count s))) (three-more (digits 8 round) (count s) (length-digits 8 round)) (places-small (s .0))),
-      )
+      rw (tc-part, count-ones m s k)
+      (accepted-bytes tcForm m s k (digits 8 round) (bytesOf (entries ps highs)) refl (length-digits 8 round) (entries-length ps highs)
+      (tc-places-at highs ps (digits 8 round ++ (digits 1 1 ++ digits 2 (count s))) (three-more (digits 8 round) (count s) (length-digits 8 round)) (places-small (s .0))))
 
   -- ---- a QC that is genesis, or backed
 
@@ -274,9 +301,9 @@ module _ (m : List ℕ) where
 
   -- inside a block or a timeout it is accepted
   pub backed-good : (q : QC) → Backed q → GoodQC m q
-  backed-good q (first e) = rw e (_, genesis-accepted m (quorumOf m) _ genesis-bytes)
+  backed-good q (first e) = rw (e, genesis-bytes) (genesis-accepted m (quorumOf m) (qcBytes (newCore .«high_qc»)) genesis-bytes)
   backed-good q (quorate k) = cases (equalsGenesis (qcBytes q)) refl
     where
       cases : (b : Bool) → equalsGenesis (qcBytes q) ≡ b → GoodQC m q
-      cases true e = (_, genesis-accepted m (quorumOf m) (qcBytes q) e)
-      cases false e = rw (embedded-part m (quorumOf m) (qcBytes q) e) (qc-part-accepted q k)
+      cases true e = rw e (genesis-accepted m (quorumOf m) (qcBytes q) e)
+      cases false e = rw (e, embedded-part m (quorumOf m) (qcBytes q) e) (qc-part-accepted q k)

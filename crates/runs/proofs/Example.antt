@@ -273,7 +273,8 @@ certificate1 =
       hashed = refl;
       round = refl;
       other = refl;
-      accepted = (record { 0 = 7 }, refl);
+      signers = record { 0 = 7 };
+      accepted = refl;
       result = λ p e o. signed1 p (among p e);
     }
 
@@ -286,7 +287,8 @@ wider1 =
       hashed = refl;
       round = refl;
       other = refl;
-      accepted = (record { 0 = 15 }, refl);
+      signers = record { 0 = 15 };
+      accepted = refl;
       result = λ p e o. signed1 p (obeying p (below4 p e) o);
     }
 
@@ -299,7 +301,8 @@ certificate2 =
       hashed = refl;
       round = refl;
       other = refl;
-      accepted = (record { 0 = 7 }, refl);
+      signers = record { 0 = 7 };
+      accepted = refl;
       result = λ p e o. signed2 p (among p e);
     }
 

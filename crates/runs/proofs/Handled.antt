@@ -10,10 +10,8 @@ use mathlib.Core.Logic.{_≢_}
 use mathlib.Core.Path.{_≡_, refl, sym, ap, _∙_}
 use native.Mathlib.Omega.{arith}
 use borrow.Author.Tests.{ltb-true, ltb-false, eqb-true, eq-eqb, ne-eqb}
-use lib.Bits.{or-lt}
 use lib.Dec.{eqb, ltb, leb, lit<}
 use lib.ListN.{length, getD}
-use lib.Pow.{pow-lt}
 use Rattle.certificates.specs.declared.numbers.Hash.{Hash}
 use Rattle.certificates.specs.declared.numbers.Signers.{Signers}
 use Rattle.certificates.specs.declared.messages.QC.{QC}
@@ -56,18 +54,12 @@ use Rattle.handlers.specs.Proposals.{Proposal, qcFound, proposalCheck, advanced
 use Rattle.handlers.proofs.HandlerLaws.{first-both}
 use Rattle.handlers.proofs.ProposalTheorems.{checks-passed}
 use Rattle.replica.specs.Blocks.{settledFor, settledStep, afterSettled, processed, goingOn}
-use Rattle.runs.specs.Signed.{Every, none, more, Sends}
+use Rattle.runs.specs.Signed.{Sends}
 use Rattle.runs.proofs.Tallied.{Quorate}
-use Rattle.runs.proofs.Certificates.{backed-good}
-use Rattle.runs.proofs.Kept.{Kept, Good, MayTake, every-append, good-quiet, good-then, good-advanced, good-taken, good-make-with, good-vote, good-timeout}
+use Rattle.runs.proofs.Certificates.{signers-word, backed-good}
+use Rattle.runs.proofs.Kept.{Every, none, more, Kept, Good, MayTake, every-append, good-quiet, good-then, good-advanced, good-taken, good-make-with, good-vote, good-timeout}
 
 -- ---- certificates that were accepted
-
-signers-word : (s : Signers) (ps : List ℕ) → s .0 < 2 ^ 64 → ((j : ℕ) → j < length ps → getD ps j 0 < 64) → signed.signersFrom s ps .0 < 2 ^ 64
-unfolding signed.signersFrom
-signers-word s [] h a = h
-signers-word s (p ∷ ps) h a =
-    signers-word (signed.withSigner s p) ps (or-lt 64 (s .0) (2 ^ p) h (pow-lt (a 0 (omega arith)))) (λ j l. a (suc j) (omega arith))
 
 pub accepted-quorate : (f : Form) (m part : List ℕ) (s : Signers) → checkPart f m (quorumOf m) part ≡ Accepted s → Quorate m s
 unfolding signed.signersOf

@@ -19,6 +19,7 @@ use Rattle.certificates.specs.declared.numbers.Signers.{Signers}
 use Rattle.certificates.specs.declared.numbers.Stake.{Stake}
 use Rattle.certificates.specs.declared.config.Setup.{Setup}
 use Rattle.certificates.specs.declared.config.Setup.the-variants.{Bad, Total}
+use Rattle.certificates.specs.declared.messages.Checked.the-variants.{Accepted}
 use Rattle.certificates.specs.Config.{membersMax, stakeOf, sum, quorumOf, setupOf}
 use Rattle.certificates.specs.Messages.{qcCheck}
 use Rattle.certificates.specs.Start.{setupAt}
@@ -46,11 +47,11 @@ use Rattle.replica.specs.declared.started.Seat.{Seat}
 use Rattle.replica.specs.Started.{membersOf, sized, shaped, lightIn, startedOf, roomy}
 use Rattle.replica.specs.Step.{World, Result, refusedIn, inWorld, newSeat, newState, newStakes, newCore, announced, begunBy, begun, committee, started, sizedIn, handled, onStart, onOther, onKind, stepped}
 use Rattle.replica.proofs.StartedLaws.{sized-all, shaped-all}
-use Rattle.runs.specs.Runs.{Event, stepOn, worldAfter, outsOf, Begun, Run, origin, end, outputs}
-use Rattle.runs.specs.Signed.{Every, none, more, Sends, Accepts, GoodTC, qcBytes}
+use Rattle.runs.specs.Runs.{Event, stepOn, worldAfter, outsOf, Begun, Run, origin, end, outputs, Written}
+use Rattle.runs.specs.Signed.{Sends, GoodTC, qcBytes}
 use Rattle.runs.proofs.Tallied.{Tallied, tallied-light}
 use Rattle.runs.proofs.Certificates.{first, backed-good, quorate-qc, quorate-tc}
-use Rattle.runs.proofs.Kept.{Kept, Good, every-append, good-make, vote-quorate, timeout-quorate}
+use Rattle.runs.proofs.Kept.{Every, none, more, Kept, Good, every-append, every-written, good-make, vote-quorate, timeout-quorate}
 use Rattle.runs.proofs.Handled.{good-handled-vote, good-handled-timeout, good-handled-tc, good-handled-tick, good-processed, good-proposal, good-going}
 
 pub record Invariant (seat : Seat) (stakes : List ℕ) (w : World) : Type 0 where
@@ -258,15 +259,15 @@ module _ (r : Run) where
   invariant-run = invariant-events (origin r) (start-well .world) (r .events)
 
   -- Every QC and every TC that a run writes, laid out as a certificate with the result yes, passes the check of every replica of its committee.
-  pub run-certificates : Every (Sends (committee (origin r))) (outputs r)
-  run-certificates = every-append (start-well .outs) (outs-events (origin r) (start-well .world) (r .events))
+  pub run-certificates : {a : Rec} → Written a (outputs r) → Sends (committee (origin r)) a
+  run-certificates = every-written (Sends (committee (origin r))) (every-append (start-well .outs) (outs-events (origin r) (start-well .world) (r .events)))
 
 -- ---- what tallies make
 
 module _ (m : List ℕ) {s : State} (k : Kept m s) (p : ℕ) (who : Known m p) where
   -- A QC that a tally of votes makes, laid out as a certificate with the result yes, passes the check.
   pub made-qc-accepted : (hash : Hash) (round : ℕ) {i : ℕ} {q : Signers} → voteAdded (s .votes) round hash p (stakeOf m p) (quorumOf m) ≡ Full i q
-      → Accepts (qcCheck m (quorumOf m) (qcBytes (qcOf hash round q)))
+      → qcCheck m (quorumOf m) (qcBytes (qcOf hash round q)) ≡ Accepted q
   made-qc-accepted hash round {q = q} e = quorate-qc m (qcOf hash round q) (vote-quorate m k p who hash round e)
 
   -- A TC that a tally of timeouts makes, likewise, with the high rounds of its row.

@@ -1,4 +1,5 @@
 -- What holds of a replica's state in every run, and what each move and each handler keeps of it. m is the committee. Assumes nothing.
+--     Every P rs          P holds of every record of the list rs
 --     Kept m s            what holds of a state
 --     Good m a            a step that leaves such a state, and whose records hold only certificates that pass the check
 --     good-...            each of the moves
@@ -34,9 +35,15 @@ use Rattle.moves.specs.Moves.{inNewRound, advanced, raised, takenQC, leads, mak
 use Rattle.moves.specs.Tallied.{qcOf, afterVote, voteTallied, afterTimeout, timeoutTallied}
 use Rattle.moves.proofs.MoveLaws.{advanced-below, advanced-at, raised-above, raised-not, taken-is, certified-is, timed-out-is}
 use Rattle.moves.proofs.TallyLaws.{vote-tallied-is, timeout-tallied-is}
-use Rattle.runs.specs.Signed.{Every, none, more, Sends}
+use Rattle.runs.specs.Runs.{Written}
+use Rattle.runs.specs.Signed.{Sends}
 use Rattle.runs.proofs.Tallied.{Quorate, Tallied, tallied-new, tallied-more, counts-full}
 use Rattle.runs.proofs.Certificates.{Backed, first, quorate, backed-good, quorate-tc}
+
+-- P holds of every record of a list
+pub data Every (P : Rec → Type 0) : List Rec → Type 0 where
+  none : Every P []
+  more : {a : Rec} {rs : List Rec} → P a → Every P rs → Every P (a ∷ rs)
 
 pub record Kept (m : List ℕ) (s : State) : Type 0 where
   -- the tables of tallies have their sizes
@@ -59,6 +66,13 @@ pub record Good (m : List ℕ) (a : Step) : Type 0 where
 pub every-append : {P : Rec → Type 0} {xs ys : List Rec} → Every P xs → Every P ys → Every P (xs ++ ys)
 every-append none q = q
 every-append (more h p) q = more h (every-append p q)
+
+pub every-written : (P : Rec → Type 0) {rs : List Rec} {a : Rec} → Every P rs → Written a rs → P a
+every-written P {rs} {a} e w = there (w .before) (rw (w .is) at e)
+  where
+    there : (xs : List Rec) → Every P (xs ++ (a ∷ w .rest)) → P a
+    there [] (more h p) = h
+    there (x ∷ xs) (more h p) = there xs p
 
 -- a QC may be taken: one whose round is not 0 is backed
 abbrev pub MayTake : List ℕ → QC → Type 0

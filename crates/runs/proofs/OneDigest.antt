@@ -14,12 +14,12 @@ use Rattle.certificates.proofs.Accepted.{embedded-part}
 use Rattle.certificates.proofs.Theorems.{Shared, obeying-signer}
 use Rattle.outputs.specs.Records.{vote}
 use Rattle.runs.specs.Runs.{outputs, Written}
-use Rattle.runs.specs.Signed.{Members, Obeys, Signed, Accepts, Certificate}
+use Rattle.runs.specs.Signed.{Members, Obeys, Signed, Certificate}
 use Rattle.runs.proofs.Theorems.{one-vote}
 
 module _ (M : Members) where
-  accepted-part : {h : Hash} {n : ℕ} (c : Certificate M h n) → Accepts (checkPart qcForm (M .stakes) (quorumOf (M .stakes)) (c .part))
-  accepted-part c = (c .accepted .0, sym (embedded-part (M .stakes) (quorumOf (M .stakes)) (c .part) (c .other)) ∙ c .accepted .1)
+  accepted-part : {h : Hash} {n : ℕ} (c : Certificate M h n) → checkPart qcForm (M .stakes) (quorumOf (M .stakes)) (c .part) ≡ Accepted (c .signers)
+  accepted-part c = sym (embedded-part (M .stakes) (quorumOf (M .stakes)) (c .part) (c .other)) ∙ c .accepted
 
   -- a member that obeys and signed both
   pub record Both (h h′ : Hash) (n n′ : ℕ) : Type 0 where
@@ -31,9 +31,7 @@ module _ (M : Members) where
 
   shared-voter : {h h′ : Hash} {n n′ : ℕ} → Certificate M h n → Certificate M h′ n′ → Both h h′ n n′
   shared-voter c d =
-      let a = accepted-part c in
-      let b = accepted-part d in
-      let s = obeying-signer (M .stakes) qcForm qcForm (c .part) (d .part) (a .0) (b .0) (a .1) (b .1) (M .breakers) (M .few) in
+      let s = obeying-signer (M .stakes) qcForm qcForm (c .part) (d .part) (c .signers) (d .signers) (accepted-part c) (accepted-part d) (M .breakers) (M .few) in
       record {
         place = s .0;
         a-member = s .1 .a-member;

@@ -1,15 +1,16 @@
 -- The members of one committee: their runs, what each signed, and what the results of signature checks may be trusted for. And certificates laid out as bytes.
---     Every P rs                  P holds of every record in the list rs
 --     qcBytes q                   a QC laid out as a certificate whose result is yes
 --     tcBytes round names highs   a TC likewise
---     Sends m a                   what is said of the certificates in a record that a replica of the committee m writes: laid out so, they are accepted
+--     GoodQC m q                  laid out so, it is accepted by the committee m inside a block or a timeout
+--     GoodTC m round names highs  .. and a TC
+--     Sends m a                   the certificates in the record a are good
 --     Members                     the stakes, who breaks the rules, and one run for each of the others
 --     Obeys M p                   place p is none of those who break the rules
 --     Signed M p h n              p signed a vote for the hash h and the round n
 --     TrueResult M part           the result of a vote certificate is true
 --     Certificate M h n           a vote certificate other than genesis, for the hash h and the round n, accepted and with a true result
 use Prim.Native.Nat.{ℕ, _*_, _≤_, _<_}
-use mathlib.Core.Bool.{true, false}
+use mathlib.Core.Bool.{true, false, cond}
 use mathlib.Core.List.{List, [], _∷_, map}
 use mathlib.Core.Path.{_≡_}
 use lib.Count.{ones}
@@ -17,20 +18,15 @@ use lib.ListN.{length}
 use Rattle.certificates.specs.declared.numbers.Hash.{Hash}
 use Rattle.certificates.specs.declared.numbers.Signers.{Signers}
 use Rattle.certificates.specs.declared.messages.QC.{QC}
-use Rattle.certificates.specs.declared.messages.Checked.{Checked}
 use Rattle.certificates.specs.declared.messages.Checked.the-variants.{Accepted}
 use Rattle.certificates.specs.Config.{sum, quorumOf}
 use Rattle.certificates.specs.Num.{numAt, hashAt}
-use Rattle.certificates.specs.Signers.{isIn, stakeIn, member}
+use Rattle.certificates.specs.Signers.{isIn, stakeIn, noSigners, member}
 use Rattle.certificates.specs.Messages.{qcForm, placesIn, tcCheck, equalsGenesis, embeddedCheck}
 use Rattle.outputs.specs.Fields.{Field, number, hash, bytesOf}
 use Rattle.outputs.specs.Records.{Rec, vote, timeout, tc, make, makeWith, commit, sync, cleanProposer, cleanMempool, timerReset, answer, placesOf, entries}
 use Rattle.replica.specs.Step.{committee}
 use Rattle.runs.specs.Runs.{Run, origin, outputs, Written}
-
-pub data Every (P : Rec → Type 0) : List Rec → Type 0 where
-  none : Every P []
-  more : {a : Rec} {rs : List Rec} → P a → Every P rs → Every P (a ∷ rs)
 
 -- ---- certificates as bytes
 
@@ -43,16 +39,13 @@ qcBytes q =
 unfoldable pub tcBytes : ℕ → ℕ → List ℕ → List ℕ
 tcBytes round names highs = bytesOf (number 8 round ∷ number 1 1 ∷ number 2 (ones names) ∷ entries (placesOf names) highs)
 
--- whether a check accepts
-abbrev pub Accepts : Checked → Type 0
-Accepts c = (s : Signers) × (c ≡ Accepted s)
-
--- the QC of a block or a timeout, and a TC, under the committee m
+-- the QC of a block or a timeout is accepted by the committee m with the signers that it has; one that equals genesis has none
 abbrev pub GoodQC : List ℕ → QC → Type 0
-GoodQC m q = Accepts (embeddedCheck m (quorumOf m) (qcBytes q))
+GoodQC m q = embeddedCheck m (quorumOf m) (qcBytes q) ≡ Accepted (cond (equalsGenesis (qcBytes q)) noSigners (q .signers))
 
+-- a TC is accepted with the names that it has
 abbrev pub GoodTC : List ℕ → ℕ → ℕ → List ℕ → Type 0
-GoodTC m round names highs = Accepts (tcCheck m (quorumOf m) (tcBytes round names highs))
+GoodTC m round names highs = tcCheck m (quorumOf m) (tcBytes round names highs) ≡ Accepted (record { 0 = names })
 
 abbrev pub Sends : List ℕ → Rec → Type 0
 Sends m (vote to block round) = Unit {0}
@@ -97,5 +90,6 @@ pub record Certificate (M : Members) (h : Hash) (n : ℕ) : Type 0 where
   pub hashed : hashAt part 0 ≡ h
   pub round : numAt 8 part 32 ≡ n
   pub other : equalsGenesis part ≡ false
-  pub accepted : Accepts (embeddedCheck (M .stakes) (quorumOf (M .stakes)) part)
+  pub signers : Signers
+  pub accepted : embeddedCheck (M .stakes) (quorumOf (M .stakes)) part ≡ Accepted signers
   pub result : TrueResult M part
