@@ -1,0 +1,15 @@
+pub mod Lists
+pub mod Marks
+pub mod Plain
+pub mod Lawful
+pub mod Steps
+pub mod Rounds
+pub mod Theorems
+pub mod Calls
+pub mod Tallied
+pub mod Certificates
+pub mod Kept
+pub mod Handled
+pub mod Invariant
+pub mod OneDigest
+pub mod Example

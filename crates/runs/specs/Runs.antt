@@ -1,0 +1,130 @@
+-- A run of one replica: a START that was taken, and then any events, refused ones too. Each is a step of the definition, from the record and
+-- the table that the one before left.
+--     Event              the bytes of a record, and the room that is lent for its output
+--     stepOn w e         one event
+--     results w es       what each of the events es gives, from the world w on
+--     worldAfter w es    the world that they leave
+--     outsOf w es        all that they write, in order
+--     Begun w e          the event e is a START that was taken
+--     Run                a run; `events` of it are those after START
+--     origin r           the world that START left
+--     end r              the world that the run leaves
+--     outputs r          all that the run writes, in order
+--     Written a rs       the record a stands in the list rs
+--     Behind a b rs      in the list rs the record b stands behind the record a
+--     signedIn rs        the VOTEs and TIMEOUTs of a list: what the host signs
+--     deliveredIn rs     its COMMITs
+--     roundOf, votedOf, committedOf, highOf w    a world's round, last voted and last committed round, and the round of its high QC
+use Prim.Native.Nat.{ℕ}
+use mathlib.Core.Bool.{Bool, true, false, cond}
+use mathlib.Core.List.{List, [], _∷_, _++_}
+use mathlib.Core.Path.{_≡_}
+use Rattle.trace.specs.declared.events.Kind.{Kind}
+use Rattle.trace.specs.Form.{formOf}
+use Rattle.outputs.specs.Records.{Rec, vote, timeout, tc, make, makeWith, commit, sync, cleanProposer, cleanMempool, timerReset, answer}
+use Rattle.replica.specs.Step.{World, Result, stepped}
+
+pub record Event : Type 0 where
+  pub room : ℕ
+  pub bytes : List ℕ
+
+abbrev pub stepOn : World → Event → Result
+stepOn w e = stepped w (e .room) (e .bytes)
+
+unfoldable pub results : World → List Event → List Result
+results w [] = []
+results w (e ∷ es) = stepOn w e ∷ results (stepOn w e .world) es
+
+unfoldable pub worldAfter : World → List Event → World
+worldAfter w [] = w
+worldAfter w (e ∷ es) = worldAfter (stepOn w e .world) es
+
+unfoldable pub outsOf : World → List Event → List Rec
+outsOf w [] = []
+outsOf w (e ∷ es) = stepOn w e .outs ++ outsOf (stepOn w e .world) es
+
+-- ---- a run
+
+-- START's only answer that is no refusal is 0
+pub record Begun (w : World) (e : Event) : Type 0 where
+  pub start : formOf (e .bytes) ≡ Kind.Start
+  pub taken : stepOn w e .answer ≡ 0
+
+-- `lent` is the memory as it was before START
+pub record Run : Type 0 where
+  pub lent : World
+  pub start : Event
+  pub begun : Begun lent start
+  pub events : List Event
+
+abbrev pub origin : Run → World
+origin r = stepOn (r .lent) (r .start) .world
+
+abbrev pub end : Run → World
+end r = worldAfter (origin r) (r .events)
+
+abbrev pub outputs : Run → List Rec
+outputs r = stepOn (r .lent) (r .start) .outs ++ outsOf (origin r) (r .events)
+
+-- ---- records in a list
+
+pub record Written (a : Rec) (rs : List Rec) : Type 0 where
+  pub before : List Rec
+  pub rest : List Rec
+  pub is : rs ≡ before ++ (a ∷ rest)
+
+pub record Behind (a b : Rec) (rs : List Rec) : Type 0 where
+  pub before : List Rec
+  pub between : List Rec
+  pub rest : List Rec
+  pub is : rs ≡ before ++ (a ∷ between ++ (b ∷ rest))
+
+unfoldable pub only : (Rec → Bool) → List Rec → List Rec
+only p [] = []
+only p (r ∷ rs) = cond (p r) (r ∷ only p rs) (only p rs)
+
+abbrev pub isSigned : Rec → Bool
+isSigned (vote to hash round) = true
+isSigned (timeout round high) = true
+isSigned (tc round names highs) = false
+isSigned (make round high) = false
+isSigned (makeWith round high of names highs) = false
+isSigned (commit digest round) = false
+isSigned (sync parent block author) = false
+isSigned (cleanProposer b0 b1 block) = false
+isSigned (cleanMempool round) = false
+isSigned timerReset = false
+isSigned (answer n) = false
+
+abbrev pub isCommit : Rec → Bool
+isCommit (vote to hash round) = false
+isCommit (timeout round high) = false
+isCommit (tc round names highs) = false
+isCommit (make round high) = false
+isCommit (makeWith round high of names highs) = false
+isCommit (commit digest round) = true
+isCommit (sync parent block author) = false
+isCommit (cleanProposer b0 b1 block) = false
+isCommit (cleanMempool round) = false
+isCommit timerReset = false
+isCommit (answer n) = false
+
+abbrev pub signedIn : List Rec → List Rec
+signedIn rs = only isSigned rs
+
+abbrev pub deliveredIn : List Rec → List Rec
+deliveredIn rs = only isCommit rs
+
+-- ---- numbers of a world
+
+abbrev pub roundOf : World → ℕ
+roundOf w = w .state .core .round .0
+
+abbrev pub votedOf : World → ℕ
+votedOf w = w .state .core .«last_voted_round» .0
+
+abbrev pub committedOf : World → ℕ
+committedOf w = w .state .core .«last_committed_round» .0
+
+abbrev pub highOf : World → ℕ
+highOf w = w .state .core .«high_qc» .round .0

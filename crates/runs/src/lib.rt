@@ -1,0 +1,1 @@
+// No code: what a run of the replica is, and what holds of every run.
