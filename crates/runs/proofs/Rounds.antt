@@ -8,6 +8,7 @@ use Prim.Native.Nat.{ℕ, _≤_, _<_}
 use mathlib.Core.List.{List, [], _∷_, _++_, map}
 use mathlib.Core.Path.{_≡_, refl, sym, _∙_, ap}
 use Rattle.certificates.specs.declared.numbers.Stake.{Stake}
+use Rattle.trace.specs.declared.events.Block.{Block}
 use Rattle.outputs.specs.Records.{Rec, vote, timeout, tc, make, makeWith, commit, sync, cleanProposer, cleanMempool, timerReset, answer}
 use Rattle.synchronizer.specs.declared.table.Slot.{Slot}
 use Rattle.synchronizer.specs.Settle.{commitRec}
@@ -18,7 +19,7 @@ use Rattle.replica.specs.Step.{World, Result}
 use Rattle.runs.specs.Runs.{Event, stepOn, worldAfter, outsOf, Run, origin, end, outputs, only, isSigned, isCommit, signedIn, deliveredIn, votedOf, committedOf}
 use Rattle.runs.proofs.Lists.{only-append}
 use Rattle.runs.proofs.Marks.{Mark, skip, above, reach, Marked, marked-append}
-use Rattle.runs.proofs.Lawful.{votedIn, committedIn, Signs, nothing, ballot, expiry, Delivers}
+use Rattle.runs.proofs.Lawful.{votedIn, committedIn, Signs, nothing, ballot, expiry, Delivers, deliveries-rising}
 use Rattle.runs.proofs.Steps.{Started, step-lawful, started-again, Starts, starts, start-started, start-silent}
 
 -- a VOTE stands above last voted and becomes it; a TIMEOUT raises it
@@ -51,26 +52,26 @@ commitMark (answer n) = skip
 
 -- ---- one event
 
-signs-marked : (c : Core) (a : Step) → Signs c a → Marked voteMark (votedIn c) (signedIn (a .outs)) (votedIn (a .state .core))
+signs-marked : {b : Block} {q : ℕ} {c : Core} {a : Step} → Signs b q c a → Marked voteMark (votedIn c) (signedIn (a .outs)) (votedIn (a .state .core))
 unfolding Marked
-signs-marked c a (nothing e v) = rw e (sym v)
-signs-marked c a (ballot to b e n r v) = rw e (n, sym v)
-signs-marked c a (expiry e v) = rw e (tt, sym v)
+signs-marked (nothing e v) = rw e (sym v)
+signs-marked (ballot k) = rw (k .is) (k .newer, sym (k .now))
+signs-marked (expiry e v) = rw e (tt, sym v)
 
 rising-marked : (low high : ℕ) (bs : List Slot) → Rising low bs high → Marked commitMark low (map commitRec bs) high
 unfolding Marked Rising
 rising-marked low high [] e = e
 rising-marked low high (b ∷ bs) h = (h .0, rising-marked (b .round .0) high bs (h .1))
 
-delivers-marked : (low : ℕ) (a : Step) → Delivers low a → Marked commitMark low (deliveredIn (a .outs)) (committedIn (a .state .core))
-delivers-marked low a d = rw (d .are) (rising-marked low (committedIn (a .state .core)) (d .blocks) (d .rise))
+delivers-marked : {b : Slot} {t t′ : List Slot} {low : ℕ} {a : Step} → Delivers b t t′ low a → Marked commitMark low (deliveredIn (a .outs)) (committedIn (a .state .core))
+delivers-marked {low = low} {a = a} d = rw (d .are) (rising-marked low (committedIn (a .state .core)) (d .blocks) (deliveries-rising (d .by)))
 
 module _ (w : World) (e : Event) (t : Stake) (s : Started w t) where
   pub step-voted : Marked voteMark (votedOf w) (signedIn (stepOn w e .outs)) (votedOf (stepOn w e .world))
-  step-voted = signs-marked _ _ (step-lawful w e t s .lawful .signs)
+  step-voted = signs-marked (step-lawful w e t s .lawful .signs)
 
   pub step-committed : Marked commitMark (committedOf w) (deliveredIn (stepOn w e .outs)) (committedOf (stepOn w e .world))
-  step-committed = delivers-marked _ _ (step-lawful w e t s .lawful .delivers)
+  step-committed = delivers-marked (step-lawful w e t s .lawful .delivers)
 
 -- ---- any events
 
