@@ -438,7 +438,7 @@ settled-for s t b =
 
 -- ---- what is delivered
 
-commit-of : (b0 : Slot) (t : List Slot) (low : ℕ) (blocks : List Slot) → low < b0 .round .0 → walkOf t b0 low ≡ delivers blocks
+pub commit-of : (b0 : Slot) (t : List Slot) (low : ℕ) (blocks : List Slot) → low < b0 .round .0 → walkOf t b0 low ≡ delivers blocks
     → commitOf t b0 low ≡ record { answer = 0; last = b0 .round .0; blocks = blocks }
 unfolding commitOf
 commit-of b0 t low blocks h e = rw (lt-ltb _ _ h, e)

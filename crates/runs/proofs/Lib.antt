@@ -6,3 +6,4 @@ pub mod Steps
 pub mod Rounds
 pub mod Theorems
 pub mod Calls
+pub mod Laws
