@@ -27,7 +27,7 @@ use Rattle.certificates.specs.Error.{roundTooHigh, qcRequiresQuorum, tcRequires
 use Rattle.trace.specs.declared.events.Block.{Block}
 use Rattle.trace.specs.declared.events.Timeout.{Timeout}
 use Rattle.trace.specs.Layout.{roundMax, timeoutQC, tcBody, qcPart, tcPart}
-use Rattle.outputs.specs.Records.{Rec, vote, timeout, timerReset, commit, sync, cleanProposer, cleanMempool}
+use Rattle.outputs.specs.Records.{Rec, vote, timeout, timerReset, sync, cleanProposer, cleanMempool}
 use Rattle.aggregator.specs.Tally.{voteWidth, timeoutWidth}
 use Rattle.aggregator.specs.Tallies.{voteTallies, timeoutTallies, votesLength, timeoutsLength, Light}
 use Rattle.synchronizer.specs.declared.table.Slot.{Slot}
@@ -36,19 +36,19 @@ use Rattle.synchronizer.specs.declared.settle.Work.{Work}
 use Rattle.synchronizer.specs.Error.{waitParent, tableFull}
 use Rattle.synchronizer.specs.Table.{placeOf, stored, ancestorsOf}
 use Rattle.synchronizer.specs.Walk.{Walk, refused as stopped, delivers, walkOf, committedBy, commitOf, noCommit}
-use Rattle.synchronizer.specs.Settle.{Settlement, answered, isTwoChain, cleanOf, commitIf, commitRec, linkedOf, waitOf, processedBy, processedOf, settledOf}
+use Rattle.synchronizer.specs.Settle.{Settlement, answered, isTwoChain, cleanOf, commitIf, commitRec, linkedOf, waitOf, processedBy, processedOf}
 use Rattle.synchronizer.proofs.WalkLaws.{Rising, commit-rising}
 use Rattle.synchronizer.proofs.SettleLaws.{settled-block}
 use Rattle.moves.specs.declared.state.Core.{Core}
 use Rattle.moves.specs.State.{State, withCore, withVoted, withCommitted, withHigh}
-use Rattle.moves.specs.Outcome.{Step, Outcome, quiet, wrote, andThen, done, after, refused}
+use Rattle.moves.specs.Outcome.{Step, Outcome, quiet, done, after, refused}
 use Rattle.moves.specs.Moves.{advanced, raised, takenQC}
 use Rattle.moves.specs.Tallied.{qcOf, timeoutTallied}
 use Rattle.moves.proofs.MoveLaws.{Keeps, keeps-none, keeps-then, advanced-keeps, taken-keeps, taken-is}
 use Rattle.moves.proofs.TallyLaws.{timeout-tallied-keeps}
 use Rattle.handlers.specs.Sound.{first, signersOf}
 use Rattle.handlers.specs.Votes.{extends, mayVote, ownVote, voted, voting}
-use Rattle.handlers.specs.Timeouts.{timeoutCheck, timeoutTaken, timeoutWith, handledTimeout, tcTaken, staleIf, tcWith, handledTC, votedUp, ticked, tickOuts, ownTimeout, handledTick}
+use Rattle.handlers.specs.Timeouts.{timeoutCheck, timeoutTaken, timeoutWith, handledTimeout, tcTaken, staleIf, tcWith, handledTC, votedUp, ticked, ownTimeout, handledTick}
 use Rattle.handlers.specs.Proposals.{qcFound, taken, proposalOf}
 use Rattle.handlers.proofs.VoteTheorems.{may-newer, may-extends, voting-is-past, voting-is-not, voting-is, voted-is, voted-keeps}
 use Rattle.handlers.proofs.ProposalTheorems.{proposal-goes-on, proposal-keeps, advanced-tc-keeps}

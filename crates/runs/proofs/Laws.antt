@@ -13,10 +13,9 @@
 --     commit-new, commits-rise, commit-kept, commit-last, commit-none      the rounds of an event's COMMITs
 --     deliveries, deliveries-chain         the blocks of its COMMITs
 use Prim.Native.Nat.{ℕ, _+_, _≤_, _<_}
-use mathlib.Core.Bool.{true}
 use mathlib.Core.List.{List, [], _∷_, _++_}
 use mathlib.Core.Logic.{_⊎_}
-use mathlib.Core.Path.{_≡_, refl, sym, _∙_, ap}
+use mathlib.Core.Path.{_≡_, refl, sym, _∙_}
 use native.Mathlib.Nat.{le-trans}
 use native.Mathlib.Omega.{arith}
 use lib.ListN.{length}
@@ -29,19 +28,18 @@ use Rattle.trace.specs.Form.{formOf}
 use Rattle.trace.specs.Fields.{blockOf}
 use Rattle.outputs.specs.Records.{Rec, vote, timeout, commit}
 use Rattle.synchronizer.specs.declared.table.Slot.{Slot}
-use Rattle.synchronizer.specs.Table.{ancestorsOf, stored}
+use Rattle.synchronizer.specs.Table.{ancestorsOf}
 use Rattle.synchronizer.specs.Walk.{chainOf}
 use Rattle.synchronizer.proofs.WalkLaws.{commit-chain}
 use Rattle.moves.specs.declared.state.Core.{Core}
 use Rattle.moves.specs.Outcome.{Step}
-use Rattle.handlers.specs.Votes.{extends}
 use Rattle.handlers.proofs.VoteTheorems.{ExtendsTC, extends-rule}
 use Rattle.replica.specs.Blocks.{slotFor}
-use Rattle.replica.specs.Step.{World, Result}
+use Rattle.replica.specs.Step.{World}
 use Rattle.runs.specs.Runs.{Event, stepOn, Written, Behind, isSigned, isCommit, signedIn, deliveredIn, roundOf, votedOf, committedOf, highOf}
 use Rattle.runs.proofs.Lists.{written-only, behind-only, written-none, written-one}
 use Rattle.runs.proofs.Marks.{Marked, marked-le, marked-above, marked-behind, marked-within, marked-last}
-use Rattle.runs.proofs.Lawful.{votedIn, Ballot, Signs, nothing, ballot, expiry, Commits, Deliveries, none, some, Delivers, Stores, commit-of}
+use Rattle.runs.proofs.Lawful.{Ballot, Signs, nothing, ballot, expiry, Deliveries, none, some, Delivers, Stores, commit-of}
 use Rattle.runs.proofs.Steps.{Started, tookBy, stepIn, step-lawful, started-again}
 use Rattle.runs.proofs.Rounds.{voteMark, commitMark, step-voted, step-committed}
 

@@ -6,17 +6,17 @@
 --     Started w t, started-again      the world counts as started with the total stake t; it does after any event
 --     start-world, start-started      a START that was taken: the world that it leaves, which counts as started
 --     start-silent                    .. and that it signs and delivers nothing
-use Prim.Native.Nat.{ℕ, suc, _+_, _≤_, _<_}
-use mathlib.Core.Bool.{Bool, true, false, cond, true≢false}
-use mathlib.Core.List.{List, [], _∷_, _++_}
+use Prim.Native.Nat.{ℕ, suc, _≤_}
+use mathlib.Core.Bool.{Bool, true, false, cond}
+use mathlib.Core.List.{List}
 use mathlib.Core.Path.{_≡_, refl, sym, _∙_, ap}
 use native.Mathlib.Omega.{arith}
-use borrow.Author.Tests.{eq-eqb, lt-ltb, le-leb}
-use lib.Dec.{eqb, ltb, leb}
-use lib.ListN.{length, take, drop, replicate, length-replicate}
-use Rattle.certificates.specs.Config.{membersMax, sum, quorumFrom, quorumOf, setupOf}
-use Rattle.certificates.specs.Start.{memberCount, ownPlace, setupAt, loadedStakes}
-use Rattle.certificates.specs.Error.{badRecord, badSetup, noRoom, notStarted, startedAgain}
+use borrow.Author.Tests.{eq-eqb}
+use lib.Dec.{eqb}
+use lib.ListN.{length, drop, length-replicate}
+use Rattle.certificates.specs.Config.{membersMax, quorumFrom, quorumOf, setupOf}
+use Rattle.certificates.specs.Start.{setupAt, loadedStakes}
+use Rattle.certificates.specs.Error.{badRecord, noRoom, startedAgain}
 use Rattle.certificates.specs.declared.numbers.Stake.{Stake}
 use Rattle.certificates.specs.declared.config.Setup.{Setup}
 use Rattle.certificates.specs.declared.config.Setup.the-variants.{Bad, Total}
@@ -34,14 +34,14 @@ use Rattle.synchronizer.specs.declared.table.Slot.{Slot}
 use Rattle.synchronizer.specs.Table.{cleared}
 use Rattle.synchronizer.proofs.SettleLaws.{settled-length}
 use Rattle.moves.specs.State.{State}
-use Rattle.moves.specs.Outcome.{Step, Outcome, quiet}
+use Rattle.moves.specs.Outcome.{Step}
 use Rattle.moves.proofs.MoveLaws.{keeps-none}
 use Rattle.handlers.specs.Proposals.{Proposal, proposalOf}
 use Rattle.handlers.proofs.VoteTheorems.{vote-keeps}
 use Rattle.replica.specs.declared.started.Seat.{Seat}
-use Rattle.replica.specs.Started.{membersOf, sized, shaped, lightIn, startedOf, roomy}
+use Rattle.replica.specs.Started.{membersOf, shaped, lightIn, startedOf, roomy}
 use Rattle.replica.specs.Blocks.{workFor, settledFor, processedTable, goingOnTable}
-use Rattle.replica.specs.Step.{World, Result, refusedIn, inWorld, newCore, newSeat, newStakes, newState, startOuts, begun, begunBy, committee, handled, started, sizedIn, onStart, onOther, onKind, stepped}
+use Rattle.replica.specs.Step.{World, Result, refusedIn, newCore, newSeat, newStakes, newState, startOuts, begun, begunBy, committee, handled, started, sizedIn, onStart, onOther, onKind, stepped}
 use Rattle.replica.proofs.StartedLaws.{Ready, started-ready, sized-all, shaped-all}
 use Rattle.runs.specs.Runs.{Event, stepOn, Begun}
 use Rattle.runs.proofs.Plain.{Silent, plain-quiet, plain-vote, plain-timeout, plain-tc, silent-announced}
