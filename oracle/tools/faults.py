@@ -1,11 +1,11 @@
-"""Do random traces see small faults? Each is put into 01's text (model01.py), and the traces are compared with the
-Rust's answers.
+"""Do traces see small faults? Each is put into 01's text (model01.py), and compared with the Rust's answers.
+
+`models` gives the faulty texts, `sees` says whether a trace tells one from the Rust, `run` counts over many traces.
 """
 
 import os
 import types
 
-import making
 from comparing import first_difference, rust
 
 FAULTS = [
@@ -58,26 +58,30 @@ FAULTS = [
     ("no MAKE at START", "        if self.leader(1) == self.own:\n            self.make()\n", ""),
 ]
 
-def run(count, seed):
+def models():
+    """The name of each fault, and the text with it as a function from a trace to outputs."""
     with open(os.path.join(os.path.dirname(os.path.abspath(__file__)), "model01.py")) as f:
         source = f.read()
-    traces = [making.random_trace(s) for s in range(seed, seed + count)]
-    answers = rust(traces)
-    missed = 0
     for name, old, new in FAULTS:
-        if source.count(old) < 1:
+        if old not in source:
             raise ValueError(f"{name}: not in model01.py")
         module = types.ModuleType("fault")
         exec(compile(source.replace(old, new, 1), name, "exec"), module.__dict__)
-        seen = sum(found(module, trace, *answer) for trace, answer in zip(traces, answers))
-        print(f"{seen:6} of {count} traces see: {name}")
+        yield name, module.run
+
+
+def sees(model, trace, outputs, code):
+    try:
+        return first_difference(outputs, code, model(trace))[0] is not None
+    except (LookupError, ValueError, TypeError):
+        return True
+
+
+def run(traces, answers=None):
+    answers, missed = answers or rust(traces), 0
+    for name, model in models():
+        seen = sum(sees(model, trace, *answer) for trace, answer in zip(traces, answers))
+        print(f"{seen:6} of {len(traces)} traces see: {name}")
         missed += seen == 0
     print(f"{len(FAULTS)} faults, {missed} not seen")
     return 1 if missed else 0
-
-
-def found(module, trace, outputs, code):
-    try:
-        return first_difference(outputs, code, module.run(trace))[0] is not None
-    except (LookupError, ValueError, TypeError):
-        return True

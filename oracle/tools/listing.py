@@ -5,9 +5,10 @@ it was made.
 import hashlib
 import os
 
+import faults
 import making
-from comparing import Coverage, comparable, rust
-from traces import ROOT, pack, records_of
+from comparing import Coverage, comparable, rust, shrunk
+from traces import ROOT, pack, records_of, unpack
 
 DATA = os.path.join(ROOT, "crates", "scenarios", "data")
 PAPER = os.path.join(ROOT, "oracle", "LIST.md")
@@ -35,10 +36,23 @@ def long(first, count, least, most):
     return f"random, seeds {first} to {seed - 1}, those with {least} events or more, at most {most} after START", traces
 
 
+def seen(first, count):
+    """For each small fault of faults.py the first of so many random traces that sees it, made small."""
+    random = [making.random_trace(s) for s in range(first, first + count)]
+    answers, traces = rust(random), []
+    for name, model in faults.models():
+        trace = next((t for t, a in zip(random, answers) if faults.sees(model, t, *a)), None)
+        if trace is None:
+            raise ValueError(f"no random trace sees: {name}")
+        traces.append(shrunk(trace, lambda t, model=model: faults.sees(model, t, *rust([t])[0])))
+    return f"for each fault of oracle/tools/faults.py the first trace of the seeds from {first} on that sees it, made small", traces
+
+
 FAMILIES = {
     "oracle_one": lambda: exhaustive("one"),
     "oracle_four_chain": lambda: exhaustive("four_chain"),
     "oracle_four_votes": lambda: exhaustive("four_votes"),
+    "oracle_faults": lambda: seen(0, 500),
     "oracle_random_short": lambda: short(100_000, 300, 12),
     "oracle_random_long": lambda: long(200_000, 9, 150, 200),
 }
@@ -48,6 +62,18 @@ def cut(trace, outputs, code):
     """The trace as far as the Rust's answers reach in 01's form, and these."""
     events = comparable(outputs, code)
     return b"".join(records_of(trace)[: len(events)]) if code else trace, b"".join(events)
+
+
+def stored():
+    """The stored traces, each with its answers and code 0."""
+    found = []
+    for name in FAMILIES:
+        packs = []
+        for ending in ("traces", "answers"):
+            with open(os.path.join(DATA, f"{name}.{ending}"), "rb") as f:
+                packs.append(unpack(f.read()))
+        found += zip(*packs)
+    return [t for t, _ in found], [(a, 0) for _, a in found]
 
 
 def made():

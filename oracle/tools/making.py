@@ -229,7 +229,10 @@ def alphabets():
     b4 = b("B4", 4, b3)
     c2 = b("C2", 2, b1)
     c3 = b("C3", 3, c2)
-    up = b("U1", 1, b2)  # a block whose parent has a later round
+    b5 = b("B5", 5, None)
+    d2 = b("D2", 2, b5)  # its parent has a later round
+    d3 = b("D3", 3, d2)
+    d4 = b("D4", 4, d3)
     return {
         "one": Alphabet(
             one,
@@ -274,10 +277,10 @@ def alphabets():
                 "propose B1(g)": propose(b1),
                 "propose C2(B1)": propose(c2),
                 "propose C3(C2)": propose(c3),
-                "propose B2(g) with TC 1": propose(b2),
-                "propose B3(B2)": propose(b3),
-                "loopback U1(B2), round 1": loopback(up),
-                "loopback B4(B3)": loopback(b4),
+                "propose B5(g), round 5": propose(b5),
+                "propose D2(B5), round 2": propose(d2),
+                "propose D3(D2)": propose(d3),
+                "loopback D4(D3)": loopback(d4),
             },
             0,
             5,

@@ -10,7 +10,7 @@ sys.dont_write_bytecode = True
 ROOT = os.path.dirname(os.path.dirname(os.path.dirname(os.path.abspath(__file__))))
 sys.path.insert(0, os.path.join(ROOT, "tools"))
 
-from records import ANSWER, EVENTS, HASH, RECORD_MAX, ZERO, Start, frames, packed
+from records import ANSWER, EVENTS, HASH, RECORD_MAX, ZERO, Cursor, Start, frames, packed
 
 PANIC = 0x01FF  # the oracle's own kind: the Rust panicked, and 01 has no number for it
 KINDS = {name: kind for kind, (name, _) in EVENTS.items()}
@@ -142,3 +142,10 @@ def records_of(trace):
 def pack(items):
     """For each item a length of 4 bytes and its bytes."""
     return b"".join(len(x).to_bytes(4, "little") + x for x in items)
+
+
+def unpack(data):
+    cursor, items = Cursor(data), []
+    while cursor.at < len(data):
+        items.append(cursor.take(cursor.number(4)))
+    return items
