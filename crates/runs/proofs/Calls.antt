@@ -2,14 +2,18 @@
 --     runs-by-definition         what each call leaves is what the definition gives for that event, laid into the buffer that was lent
 --     answers-by-definition      .. so the answers are the definition's
 --     worlds-by-definition       .. and the records and tables, after each event
+--     bytes-by-definition        .. and the bytes that were written are those of the records of the definition's run
 --     runs-unique                calls that were lent the same left the same
 use Prim.Native.Nat.{ℕ}
-use mathlib.Core.List.{List, [], _∷_, map}
+use mathlib.Core.List.{List, [], _∷_, _++_, map}
 use mathlib.Core.Path.{_≡_, refl, sym, _∙_, ap}
-use lib.ListN.{length}
+use lib.ListN.{length, take, drop}
+use lib.Seq.{take-append-seam}
+use Rattle.outputs.specs.Records.{encAll}
+use Rattle.outputs.proofs.Wrote.{all-none, all-append}
 use Rattle.replica.specs.Step.{World, Result, Left, laid, stepped}
-use Rattle.runs.specs.Runs.{Event, stepOn, results}
-use Rattle.runs.specs.Calls.{Call, before, left, eventOf, Played, laidAll}
+use Rattle.runs.specs.Runs.{stepOn, results, outsOf}
+use Rattle.runs.specs.Calls.{Call, left, eventOf, Played, laidAll, written}
 
 laid-world : (x : Result) (o : List ℕ) → laid x o .world ≡ x .world
 unfolding laid
@@ -49,6 +53,18 @@ worlds-by-definition w [] p = refl
 worlds-by-definition w (c ∷ cs) p =
     let e : left c .world ≡ stepOn w (eventOf c) .world = ap (λ (l : Left). l .world) (call-is w c cs p) ∙ laid-world (stepOn w (eventOf c)) (c .out) in
     rw (e, worlds-by-definition (stepOn w (eventOf c) .world) cs (next-played w c cs p))
+
+take-laid : (x : Result) (o : List ℕ) → take (laid x o .written) (laid x o .out) ≡ encAll (x .outs)
+unfolding laid
+take-laid x o = take-append-seam (encAll (x .outs)) (drop (length (encAll (x .outs))) o)
+
+pub bytes-by-definition : (w : World) (cs : List Call) → Played w cs → written cs ≡ encAll (outsOf w (map eventOf cs))
+unfolding written outsOf
+bytes-by-definition w [] p = sym all-none
+bytes-by-definition w (c ∷ cs) p =
+    let x = stepOn w (eventOf c) in
+    let e : take (c .gives .written) (c .out′) ≡ encAll (x .outs) = ap (λ (l : Left). take (l .written) (l .out)) (call-is w c cs p) ∙ take-laid x (c .out) in
+    rw (e, bytes-by-definition (x .world) cs (next-played w c cs p)) (sym (all-append (x .outs) (outsOf (x .world) (map eventOf cs))))
 
 -- Calls that were handed the same world, buffers and records left the same.
 pub runs-unique : (w : World) (cs ds : List Call) → Played w cs → Played w ds → map eventOf cs ≡ map eventOf ds → map (λ (c : Call). c .out) cs ≡ map (λ (c : Call). c .out) ds

@@ -1,17 +1,22 @@
 -- What each handler keeps, signs and delivers. Assumes nothing but memory of the right sizes, and a quorum at most 1 above the total.
 --     Stays total s s′         the tables are as long as they were, no used tally becomes heavier than the total, neither the round nor the high QC's falls
---     Signs c a                the step a signs nothing, one VOTE or one TIMEOUT, and last voted moves with it
---     Delivers low a           the COMMITs of the step a have strictly rising rounds above low, the last being last committed
---     Lawful total s a         all of it, with the high QC below the round, and last voted not above it
+--     Ballot b q c a           the step a from the part by value c signs one VOTE, for the block b, by the rules; the high QC had then reached round q
+--     Signs b q c a            the step a signs nothing, one VOTE or one TIMEOUT, and last voted moves with it
+--     Commits, Deliveries      a commit: which block it starts from, and the walk; what is delivered, if anything
+--     Delivers b t t′ low a    the COMMITs of the step a, over the tables t before it and t′ after it, low being last committed before it
+--     Stores b t t′            the table t′ is t, or has the block b stored in it
+--     Lawful total b q t t′ s a     all of it, with the high QC below the round, and last voted not above it
 --     lawful-plain             what votes for nothing and commits nothing
---     lawful-voting, lawful-tick, lawful-processed, lawful-proposed    the vote for a block, TICK, LOOPBACK, PROPOSE
+--     lawful-tick, treats-processed, treats-proposed, lawful-treats     TICK, LOOPBACK, PROPOSE
+--     deliveries-rising        the rounds of what is delivered rise strictly from above the old last committed round to the new one
 use Prim.Native.Nat.{ℕ, suc, _+_, _≤_, _<_}
 use mathlib.Core.Bool.{Bool, true, false, cond}
 use mathlib.Core.List.{List, [], _∷_, _++_, map, append-nil}
+use mathlib.Core.Logic.{_⊎_, inl, inr}
 use mathlib.Core.Path.{_≡_, refl, sym, _∙_, ap}
 use native.Mathlib.Nat.{le-refl, le-trans}
 use native.Mathlib.Omega.{arith}
-use borrow.Author.Tests.{ltb-true, ltb-false, eqb-true, eqb-false}
+use borrow.Author.Tests.{ltb-true, ltb-false, eqb-true, eqb-false, lt-ltb}
 use lib.Dec.{ltb, eqb}
 use lib.ListN.{length}
 use Rattle.certificates.specs.declared.messages.QC.{QC}
@@ -22,7 +27,7 @@ use Rattle.certificates.specs.Error.{roundTooHigh, qcRequiresQuorum, tcRequires
 use Rattle.trace.specs.declared.events.Block.{Block}
 use Rattle.trace.specs.declared.events.Timeout.{Timeout}
 use Rattle.trace.specs.Layout.{roundMax, timeoutQC, tcBody, qcPart, tcPart}
-use Rattle.outputs.specs.Records.{Rec, vote, timeout, timerReset, commit, sync, cleanProposer, cleanMempool}
+use Rattle.outputs.specs.Records.{Rec, vote, timeout, timerReset, sync, cleanProposer, cleanMempool}
 use Rattle.aggregator.specs.Tally.{voteWidth, timeoutWidth}
 use Rattle.aggregator.specs.Tallies.{voteTallies, timeoutTallies, votesLength, timeoutsLength, Light}
 use Rattle.synchronizer.specs.declared.table.Slot.{Slot}
@@ -30,24 +35,24 @@ use Rattle.synchronizer.specs.declared.ancestors.Ancestors.{Ancestors}
 use Rattle.synchronizer.specs.declared.settle.Work.{Work}
 use Rattle.synchronizer.specs.Error.{waitParent, tableFull}
 use Rattle.synchronizer.specs.Table.{placeOf, stored, ancestorsOf}
-use Rattle.synchronizer.specs.Walk.{commitOf, noCommit}
-use Rattle.synchronizer.specs.Settle.{Settlement, answered, isTwoChain, cleanOf, commitIf, commitRec, linkedOf, waitOf, processedBy, processedOf, settledOf}
+use Rattle.synchronizer.specs.Walk.{Walk, refused as stopped, delivers, walkOf, committedBy, commitOf, noCommit}
+use Rattle.synchronizer.specs.Settle.{Settlement, answered, isTwoChain, cleanOf, commitIf, commitRec, linkedOf, waitOf, processedBy, processedOf}
 use Rattle.synchronizer.proofs.WalkLaws.{Rising, commit-rising}
 use Rattle.synchronizer.proofs.SettleLaws.{settled-block}
 use Rattle.moves.specs.declared.state.Core.{Core}
-use Rattle.moves.specs.State.{State, withCore, withVoted, withCommitted}
-use Rattle.moves.specs.Outcome.{Step, Outcome, quiet, wrote, andThen, done, after, refused}
-use Rattle.moves.specs.Moves.{advanced, takenQC}
+use Rattle.moves.specs.State.{State, withCore, withVoted, withCommitted, withHigh}
+use Rattle.moves.specs.Outcome.{Step, Outcome, quiet, done, after, refused}
+use Rattle.moves.specs.Moves.{advanced, raised, takenQC}
 use Rattle.moves.specs.Tallied.{qcOf, timeoutTallied}
-use Rattle.moves.proofs.MoveLaws.{Keeps, keeps-none, keeps-then, advanced-keeps, taken-keeps}
+use Rattle.moves.proofs.MoveLaws.{Keeps, keeps-none, keeps-then, advanced-keeps, taken-keeps, taken-is}
 use Rattle.moves.proofs.TallyLaws.{timeout-tallied-keeps}
 use Rattle.handlers.specs.Sound.{first, signersOf}
 use Rattle.handlers.specs.Votes.{extends, mayVote, ownVote, voted, voting}
-use Rattle.handlers.specs.Timeouts.{timeoutCheck, timeoutTaken, timeoutWith, handledTimeout, tcTaken, staleIf, tcWith, handledTC, votedUp, ticked, tickOuts, ownTimeout, handledTick}
-use Rattle.handlers.specs.Proposals.{Proposal, proposalOf}
+use Rattle.handlers.specs.Timeouts.{timeoutCheck, timeoutTaken, timeoutWith, handledTimeout, tcTaken, staleIf, tcWith, handledTC, votedUp, ticked, ownTimeout, handledTick}
+use Rattle.handlers.specs.Proposals.{qcFound, taken, proposalOf}
 use Rattle.handlers.proofs.VoteTheorems.{may-newer, may-extends, voting-is-past, voting-is-not, voting-is, voted-is, voted-keeps}
-use Rattle.handlers.proofs.ProposalTheorems.{proposal-keeps}
-use Rattle.replica.specs.Blocks.{workFor, settledFor, settledStep, afterSettled, processed, goingOn}
+use Rattle.handlers.proofs.ProposalTheorems.{proposal-goes-on, proposal-keeps, advanced-tc-keeps}
+use Rattle.replica.specs.Blocks.{slotFor, workFor, settledFor, settledStep, afterSettled, processed, processedTable, goingOn, goingOnTable}
 use Rattle.runs.specs.Runs.{only, isSigned, isCommit, signedIn, deliveredIn}
 use Rattle.runs.proofs.Lists.{only-append, only-head, only-skip}
 use Rattle.runs.proofs.Marks.{later}
@@ -69,22 +74,51 @@ pub record Stays (total : ℕ) (s s′ : State) : Type 0 where
   pub round : roundIn (s .core) ≤ roundIn (s′ .core)
   pub high : highIn (s .core) ≤ highIn (s′ .core)
 
--- nothing; one VOTE, for a block that the rules allow; one TIMEOUT, of the round and with the high QC that the event found
-pub data Signs (c : Core) (a : Step) : Type 0 where
-  nothing : signedIn (a .outs) ≡ [] → votedIn (a .state .core) ≡ votedIn c → Signs c a
-  ballot : (to : ℕ) (b : Block) → signedIn (a .outs) ≡ vote to (b .digest) (b .round .0) ∷ [] → votedIn c < b .round .0 → extends b ≡ true
-      → votedIn (a .state .core) ≡ b .round .0 → Signs c a
-  expiry : signedIn (a .outs) ≡ timeout (roundIn c) (c .«high_qc») ∷ [] → votedIn (a .state .core) ≡ later (votedIn c) (roundIn c) → Signs c a
+-- `at` is the part by value when the vote is cast
+pub record Ballot (b : Block) (q : ℕ) (c : Core) (a : Step) : Type 0 where
+  pub to : ℕ
+  pub is : signedIn (a .outs) ≡ vote to (b .digest) (b .round .0) ∷ []
+  pub newer : votedIn c < b .round .0
+  pub rule : extends b ≡ true
+  pub now : votedIn (a .state .core) ≡ b .round .0
+  pub at : Core
+  pub current : roundIn at ≡ b .round .0
+  pub before : highIn c ≤ highIn at
+  pub after : highIn at ≤ highIn (a .state .core)
+  pub below : highIn c < roundIn c → highIn at < roundIn at
+  pub took : q ≤ highIn at
 
-pub record Delivers (low : ℕ) (a : Step) : Type 0 where
+-- nothing; one VOTE; one TIMEOUT, of the round and with the high QC that the event found
+pub data Signs (b : Block) (q : ℕ) (c : Core) (a : Step) : Type 0 where
+  nothing : signedIn (a .outs) ≡ [] → votedIn (a .state .core) ≡ votedIn c → Signs b q c a
+  ballot : Ballot b q c a → Signs b q c a
+  expiry : signedIn (a .outs) ≡ timeout (roundIn c) (c .«high_qc») ∷ [] → votedIn (a .state .core) ≡ later (votedIn c) (roundIn c) → Signs b q c a
+
+-- the block's parent b1 and grandparent b0 were in the table, in consecutive rounds, and b0 is delivered with the walk under it
+pub record Commits (b : Slot) (t t′ : List Slot) (low : ℕ) (blocks : List Slot) (high : ℕ) : Type 0 where
+  pub found : ancestorsOf t b .answer ≡ 0
+  pub next : ancestorsOf t b .b0 .round .0 + 1 ≡ ancestorsOf t b .b1 .round .0
+  pub newer : low < ancestorsOf t b .b0 .round .0
+  pub walk : walkOf t′ (ancestorsOf t b .b0) low ≡ delivers blocks
+  pub last : high ≡ ancestorsOf t b .b0 .round .0
+
+pub data Deliveries (b : Slot) (t t′ : List Slot) (low : ℕ) (blocks : List Slot) (high : ℕ) : Type 0 where
+  none : blocks ≡ [] → high ≡ low → Deliveries b t t′ low blocks high
+  some : Commits b t t′ low blocks high → Deliveries b t t′ low blocks high
+
+pub record Delivers (b : Slot) (t t′ : List Slot) (low : ℕ) (a : Step) : Type 0 where
   pub blocks : List Slot
   pub are : deliveredIn (a .outs) ≡ map commitRec blocks
-  pub rise : Rising low blocks (committedIn (a .state .core))
+  pub by : Deliveries b t t′ low blocks (committedIn (a .state .core))
 
-pub record Lawful (total : ℕ) (s : State) (a : Step) : Type 0 where
+abbrev pub Stores : Slot → List Slot → List Slot → Type 0
+Stores b t t′ = (t′ ≡ t) ⊎ (t′ ≡ stored t b)
+
+pub record Lawful (total : ℕ) (b : Block) (q : ℕ) (t t′ : List Slot) (s : State) (a : Step) : Type 0 where
   pub stays : Stays total s (a .state)
-  pub signs : Signs (s .core) a
-  pub delivers : Delivers (committedIn (s .core)) a
+  pub signs : Signs b q (s .core) a
+  pub delivers : Delivers (slotFor b) t t′ (committedIn (s .core)) a
+  pub stores : Stores (slotFor b) t t′
   pub below : highIn (s .core) < roundIn (s .core) → highIn (a .state .core) < roundIn (a .state .core)
   pub within : votedIn (s .core) ≤ roundIn (s .core) → votedIn (a .state .core) ≤ roundIn (a .state .core)
 
@@ -117,17 +151,17 @@ stays-core total s c e f =
       high = rw f (le-refl _);
     }
 
-delivers-none : (low : ℕ) (a : Step) → deliveredIn (a .outs) ≡ [] → committedIn (a .state .core) ≡ low → Delivers low a
-unfolding Rising
-delivers-none low a e f = record { blocks = []; are = e; rise = sym f }
+delivers-none : (b : Slot) (t t′ : List Slot) (low : ℕ) (a : Step) → deliveredIn (a .outs) ≡ [] → committedIn (a .state .core) ≡ low → Delivers b t t′ low a
+delivers-none b t t′ low a e f = record { blocks = []; are = e; by = none refl f }
 
 -- what votes for nothing and commits nothing
-pub lawful-plain : {total : ℕ} {s : State} {a : Step} → Keeps total s (a .state) → Plain (s .core) a → Lawful total s a
-lawful-plain {total} {s} {a} k p =
+pub lawful-plain : {total : ℕ} {s : State} {a : Step} (b : Block) (q : ℕ) (t : List Slot) → Keeps total s (a .state) → Plain (s .core) a → Lawful total b q t t s a
+lawful-plain {total} {s} {a} b q t k p =
     record {
       stays = stays-keeps k;
       signs = nothing (p .silent .signs) (ap (λ x. x .0) (k .voted));
-      delivers = delivers-none _ a (p .silent .delivers) (ap (λ x. x .0) (k .committed));
+      delivers = delivers-none (slotFor b) t t _ a (p .silent .delivers) (ap (λ x. x .0) (k .committed));
+      stores = inl refl;
       below = p .below;
       within = λ h. let e : votedIn (a .state .core) ≡ votedIn (s .core) = ap (λ x. x .0) (k .voted) in omega (arith, k .round);
     }
@@ -135,22 +169,21 @@ lawful-plain {total} {s} {a} k p =
 -- ---- the vote for a block
 
 -- nothing, or a VOTE for it
-pub data Casts (b : Block) (c : Core) (a : Step) : Type 0 where
-  skips : signedIn (a .outs) ≡ [] → votedIn (a .state .core) ≡ votedIn c → Casts b c a
-  casts : (to : ℕ) → signedIn (a .outs) ≡ vote to (b .digest) (b .round .0) ∷ [] → votedIn c < b .round .0 → extends b ≡ true
-      → votedIn (a .state .core) ≡ b .round .0 → Casts b c a
+pub data Casts (b : Block) (q : ℕ) (c : Core) (a : Step) : Type 0 where
+  skips : signedIn (a .outs) ≡ [] → votedIn (a .state .core) ≡ votedIn c → Casts b q c a
+  casts : Ballot b q c a → Casts b q c a
 
-pub record Votes (total : ℕ) (b : Block) (s : State) (a : Step) : Type 0 where
+pub record Votes (total : ℕ) (b : Block) (q : ℕ) (s : State) (a : Step) : Type 0 where
   pub stays : Stays total s (a .state)
-  pub casts : Casts b (s .core) a
+  pub casts : Casts b q (s .core) a
   pub delivers : deliveredIn (a .outs) ≡ []
   pub committed : committedIn (a .state .core) ≡ committedIn (s .core)
   pub below : highIn (s .core) < roundIn (s .core) → highIn (a .state .core) < roundIn (a .state .core)
   pub within : votedIn (s .core) ≤ roundIn (s .core) → votedIn (a .state .core) ≤ roundIn (a .state .core)
 
-votes-quiet : (total : ℕ) (b : Block) (s : State) → Votes total b s (quiet s)
+votes-quiet : (total : ℕ) (b : Block) (q : ℕ) (s : State) → Votes total b q s (quiet s)
 unfolding only
-votes-quiet total b s =
+votes-quiet total b q s =
     record {
       stays = stays-keeps (keeps-none total s);
       casts = skips refl refl;
@@ -161,42 +194,55 @@ votes-quiet total b s =
     }
 
 -- the VOTE, and what follows it
-votes-for : (total : ℕ) (b : Block) (s : State) (to : ℕ) (x : Step) → b .round .0 ≡ roundIn (s .core) → mayVote (s .core) b ≡ true
+votes-for : (total : ℕ) (b : Block) (q : ℕ) (s : State) (to : ℕ) (x : Step) → q ≤ highIn (s .core) → b .round .0 ≡ roundIn (s .core) → mayVote (s .core) b ≡ true
     → Keeps total (withCore s (withVoted (s .core) (b .round .0))) (x .state) → Plain (withVoted (s .core) (b .round .0)) x
-    → Votes total b s (record { state = x .state; outs = vote to (b .digest) (b .round .0) ∷ x .outs })
-votes-for total b s to x e v k p =
-    let same : votedIn (x .state .core) ≡ b .round .0 = ap (λ r. r .0) (k .voted) in
+    → Votes total b q s (record { state = x .state; outs = vote to (b .digest) (b .round .0) ∷ x .outs })
+votes-for total b q s to x u e v k p =
     record {
       stays = stays-then (stays-core total s (withVoted (s .core) (b .round .0)) refl refl) (stays-keeps k);
-      casts = casts to (only-head isSigned (vote to (b .digest) (b .round .0)) (x .outs) refl ∙ rw (p .silent .signs)) (may-newer b (s .core) v) (may-extends b (s .core) v) same;
+      casts =
+          casts
+          (record {
+            to = to;
+            is = only-head isSigned (vote to (b .digest) (b .round .0)) (x .outs) refl ∙ rw (p .silent .signs);
+            newer = may-newer b (s .core) v;
+            rule = may-extends b (s .core) v;
+            now = ap (λ r. r .0) (k .voted);
+            at = s .core;
+            current = sym e;
+            before = le-refl _;
+            after = k .high;
+            below = λ h. h;
+            took = u;
+          });
       delivers = only-skip isCommit (vote to (b .digest) (b .round .0)) (x .outs) refl ∙ p .silent .delivers;
       committed = ap (λ r. r .0) (k .committed);
       below = p .below;
-      within = λ h. omega (arith, k .round);
+      within = λ h. let same : votedIn (x .state .core) ≡ b .round .0 = ap (λ r. r .0) (k .voted) in omega (arith, k .round);
     }
 
-module _ (total : ℕ) (m : List ℕ) (own : ℕ) (low : quorumOf m ≤ suc total) (b : Block) (s : State) (long : length (s .votes) ≡ votesLength) (wide : length (s .timeouts) ≡ timeoutsLength) where
+module _ (total : ℕ) (m : List ℕ) (own : ℕ) (low : quorumOf m ≤ suc total) (b : Block) (q : ℕ) (s : State) (u : q ≤ highIn (s .core)) (long : length (s .votes) ≡ votesLength) (wide : length (s .timeouts) ≡ timeoutsLength) where
   abbrev risen : State
   risen = withCore s (withVoted (s .core) (b .round .0))
 
-  votes-voted : b .round .0 ≡ roundIn (s .core) → mayVote (s .core) b ≡ true → Votes total b s (voted m own b s .left)
+  votes-voted : b .round .0 ≡ roundIn (s .core) → mayVote (s .core) b ≡ true → Votes total b q s (voted m own b s .left)
   votes-voted e v =
       let k = voted-keeps total m own low s long wide b in
       rw (voted-is m own b s)
-      (votes-for total b s (leaderOf m (b .round .0 + 1)) (cond (eqb (leaderOf m (b .round .0 + 1)) own) (ownVote m own b risen) (done 0 (quiet risen)) .left) e v
+      (votes-for total b q s (leaderOf m (b .round .0 + 1)) (cond (eqb (leaderOf m (b .round .0 + 1)) own) (ownVote m own b risen) (done 0 (quiet risen)) .left) u e v
       (rw (voted-is m own b s) at k) (cases (eqb (leaderOf m (b .round .0 + 1)) own)))
     where
       cases : (t : Bool) → Plain (risen .core) (cond t (ownVote m own b risen) (done 0 (quiet risen)) .left)
       cases true = plain-own-vote m own risen b
       cases false = plain-quiet risen
 
-  votes-voting : Votes total b s (voting m own b s .left)
+  votes-voting : Votes total b q s (voting m own b s .left)
   votes-voting = cases (eqb (b .round .0) (s .core .round .0)) refl (mayVote (s .core) b) refl
     where
-      cases : (t : Bool) → eqb (b .round .0) (s .core .round .0) ≡ t → (u : Bool) → mayVote (s .core) b ≡ u → Votes total b s (voting m own b s .left)
+      cases : (t : Bool) → eqb (b .round .0) (s .core .round .0) ≡ t → (v : Bool) → mayVote (s .core) b ≡ v → Votes total b q s (voting m own b s .left)
       cases true e true f = rw (voting-is m own b s (eqb-true _ _ e) f) (votes-voted (eqb-true _ _ e) f)
-      cases true e false f = rw (voting-is-not m own b s (eqb-true _ _ e) f) (votes-quiet total b s)
-      cases false e u f = rw (voting-is-past m own b s (eqb-false _ _ e)) (votes-quiet total b s)
+      cases true e false f = rw (voting-is-not m own b s (eqb-true _ _ e) f) (votes-quiet total b q s)
+      cases false e v f = rw (voting-is-past m own b s (eqb-false _ _ e)) (votes-quiet total b q s)
 
 -- ---- TICK
 
@@ -262,9 +308,9 @@ module _ (total : ℕ) (m : List ℕ) (own : ℕ) (low : quorumOf m ≤ suc tota
       keeps-checked total s (eqb n 0) n (done 0 (tcTaken m own s round (signersOf tc) part)) (advanced-keeps total s long wide round)
 
 -- the TIMEOUT, and what follows it
-lawful-ticked : (total : ℕ) (s : State) (x : Step) → Keeps total (ticked s .state) (x .state) → Plain (ticked s .state .core) x
-    → Lawful total s (record { state = x .state; outs = timerReset ∷ timeout (roundIn (s .core)) (s .core .«high_qc») ∷ x .outs })
-lawful-ticked total s x k p =
+lawful-ticked : (total : ℕ) (b : Block) (q : ℕ) (t : List Slot) (s : State) (x : Step) → Keeps total (ticked s .state) (x .state) → Plain (ticked s .state .core) x
+    → Lawful total b q t t s (record { state = x .state; outs = timerReset ∷ timeout (roundIn (s .core)) (s .core .«high_qc») ∷ x .outs })
+lawful-ticked total b q t s x k p =
     let c = s .core in
     let u = votedUp c (roundIn c) in
     let rest = votedUp-rest c (roundIn c) in
@@ -277,33 +323,34 @@ lawful-ticked total s x k p =
       signs =
           expiry (only-skip isSigned timerReset (rec ∷ x .outs) refl ∙ only-head isSigned rec (x .outs) refl ∙ rw (p .silent .signs)) same;
       delivers =
-          delivers-none _ _ (only-skip isCommit timerReset (rec ∷ x .outs) refl ∙ only-skip isCommit rec (x .outs) refl ∙ p .silent .delivers)
+          delivers-none (slotFor b) t t _ _ (only-skip isCommit timerReset (rec ∷ x .outs) refl ∙ only-skip isCommit rec (x .outs) refl ∙ p .silent .delivers)
           (ap (λ r. r .0) (k .committed) ∙ ap (λ r. r .0) (rest .committed));
+      stores = inl refl;
       below = λ h. p .below (omega arith);
       within = λ h. omega (arith, k .round, later-most (votedIn c) (roundIn c) h);
     }
 
-pub lawful-tick : (total : ℕ) (m : List ℕ) (own : ℕ) → quorumOf m ≤ suc total → (s : State) → length (s .votes) ≡ votesLength → length (s .timeouts) ≡ timeoutsLength
-    → Lawful total s (handledTick m own s .left)
+pub lawful-tick : (total : ℕ) (m : List ℕ) (own : ℕ) → quorumOf m ≤ suc total → (b : Block) (q : ℕ) (t : List Slot) (s : State) → length (s .votes) ≡ votesLength
+    → length (s .timeouts) ≡ timeoutsLength → Lawful total b q t t s (handledTick m own s .left)
 unfolding handledTick
-lawful-tick total m own low s long wide = cases (ltb roundMax (s .core .round .0))
+lawful-tick total m own low b q t s long wide = cases (ltb roundMax (s .core .round .0))
   where
-    cases : (t : Bool) → Lawful total s (cond t (refused roundTooHigh s) (after (ticked s) (ownTimeout m own)) .left)
-    cases true = lawful-plain (keeps-none total s) (plain-quiet s)
+    cases : (u : Bool) → Lawful total b q t t s (cond u (refused roundTooHigh s) (after (ticked s) (ownTimeout m own)) .left)
+    cases true = lawful-plain b q t (keeps-none total s) (plain-quiet s)
     cases false =
-        lawful-ticked total s (ownTimeout m own (ticked s .state) .left) (own-timeout-keeps total m own low (ticked s .state) long wide) (plain-own-timeout m own (ticked s .state))
+        lawful-ticked total b q t s (ownTimeout m own (ticked s .state) .left) (own-timeout-keeps total m own low (ticked s .state) long wide) (plain-own-timeout m own (ticked s .state))
 
 -- ---- what the table of blocks gives
 
-pub record Settled (low : ℕ) (p : Settlement) : Type 0 where
+pub record Settled (b : Slot) (t : List Slot) (low : ℕ) (p : Settlement) : Type 0 where
   pub signs : signedIn (p .outs) ≡ []
   pub blocks : List Slot
   pub are : deliveredIn (p .outs) ≡ map commitRec blocks
-  pub rise : Rising low blocks (p .last)
+  pub by : Deliveries b t (p .table) low blocks (p .last)
+  pub stores : Stores b t (p .table)
 
-settled-none : (n : ℕ) (t : List Slot) (low : ℕ) (outs : List Rec) → Silent outs → Settled low (answered n t low outs)
-unfolding Rising
-settled-none n t low outs h = record { signs = h .signs; blocks = []; are = h .delivers; rise = refl }
+settled-none : (n : ℕ) (b : Slot) (t : List Slot) (low : ℕ) (outs : List Rec) → Silent outs → Settled b t low (answered n t low outs)
+settled-none n b t low outs h = record { signs = h .signs; blocks = []; are = h .delivers; by = none refl refl; stores = inl refl }
 
 commits-signed : (bs : List Slot) → signedIn (map commitRec bs) ≡ []
 unfolding only
@@ -331,141 +378,223 @@ silent-wait w a = cases (eqb (a .answer) waitParent)
     cases true = record { signs = refl; delivers = refl }
     cases false = record { signs = refl; delivers = refl }
 
-commit-if-rising : (t : List Slot) (b0 b1 : Slot) (low : ℕ) → Rising low (commitIf t b0 b1 low .blocks) (commitIf t b0 b1 low .last)
-unfolding commitIf Rising
-commit-if-rising t b0 b1 low = cases (isTwoChain b0 b1)
-  where
-    cases : (u : Bool) → Rising low (cond u (commitOf t b0 low) (noCommit low) .blocks) (cond u (commitOf t b0 low) (noCommit low) .last)
-    cases true = commit-rising t b0 low
-    cases false = refl
+-- a commit of b0 over the table t′
+module _ (b : Slot) (t t′ : List Slot) (low : ℕ) (found : ancestorsOf t b .answer ≡ 0) where
+  abbrev b0 : Slot
+  b0 = ancestorsOf t b .b0
 
-settled-linked : (t : List Slot) (b b0 b1 : Slot) (low : ℕ) → Settled low (linkedOf t b b0 b1 low)
+  abbrev b1 : Slot
+  b1 = ancestorsOf t b .b1
+
+  by-walk : b0 .round .0 + 1 ≡ b1 .round .0 → low < b0 .round .0 → (w : Walk) → walkOf t′ b0 low ≡ w
+      → Deliveries b t t′ low (committedBy b0 low w .blocks) (committedBy b0 low w .last)
+  by-walk e h (stopped n) f = none refl refl
+  by-walk e h (delivers bs) f = some (record { found = found; next = e; newer = h; walk = f; last = refl })
+
+  by-newer : b0 .round .0 + 1 ≡ b1 .round .0 → (u : Bool) → ltb low (b0 .round .0) ≡ u
+      → Deliveries b t t′ low (cond u (committedBy b0 low (walkOf t′ b0 low)) (noCommit low) .blocks) (cond u (committedBy b0 low (walkOf t′ b0 low)) (noCommit low) .last)
+  by-newer e true h = by-walk e (ltb-true _ _ h) (walkOf t′ b0 low) refl
+  by-newer e false h = none refl refl
+
+  by-chain : (u : Bool) → isTwoChain b0 b1 ≡ u → Deliveries b t t′ low (cond u (commitOf t′ b0 low) (noCommit low) .blocks) (cond u (commitOf t′ b0 low) (noCommit low) .last)
+  unfolding isTwoChain commitOf
+  by-chain true e = by-newer (eqb-true _ _ e) (ltb low (b0 .round .0)) refl
+  by-chain false e = none refl refl
+
+  commit-if : Deliveries b t t′ low (commitIf t′ b0 b1 low .blocks) (commitIf t′ b0 b1 low .last)
+  unfolding commitIf
+  commit-if = by-chain (isTwoChain b0 b1) refl
+
+settled-linked : (t : List Slot) (b : Slot) (low : ℕ) → ancestorsOf t b .answer ≡ 0 → Settled b t low (linkedOf (stored t b) b (ancestorsOf t b .b0) (ancestorsOf t b .b1) low)
 unfolding linkedOf
-settled-linked t b b0 b1 low =
-    let bs = commitIf t b0 b1 low .blocks in
-    let c = silent-clean b0 b1 b in
+settled-linked t b low found =
+    let bs = commitIf (stored t b) (ancestorsOf t b .b0) (ancestorsOf t b .b1) low .blocks in
+    let clean = cleanOf (ancestorsOf t b .b0) (ancestorsOf t b .b1) b in
+    let c = silent-clean (ancestorsOf t b .b0) (ancestorsOf t b .b1) b in
     record {
-      signs = only-append isSigned (cleanOf b0 b1 b) (map commitRec bs) ∙ rw (c .signs) (commits-signed bs);
+      signs = only-append isSigned clean (map commitRec bs) ∙ rw (c .signs) (commits-signed bs);
       blocks = bs;
-      are = only-append isCommit (cleanOf b0 b1 b) (map commitRec bs) ∙ rw (c .delivers) (commits-delivered bs);
-      rise = commit-if-rising t b0 b1 low;
+      are = only-append isCommit clean (map commitRec bs) ∙ rw (c .delivers) (commits-delivered bs);
+      by = commit-if b t (stored t b) low found;
+      stores = inr refl;
     }
 
-settled-by : (t : List Slot) (w : Work) (a : Ancestors) → Settled (w .last .0) (processedBy t w a)
+settled-by : (t : List Slot) (w : Work) → Settled (w .block) t (w .last .0) (processedOf t w)
 unfolding processedBy
-settled-by t w a = cases (eqb (a .answer) 0) (ltb (placeOf t (w .block)) (length t))
+settled-by t w = cases (eqb (ancestorsOf t (w .block) .answer) 0) refl (ltb (placeOf t (w .block)) (length t))
   where
-    cases : (u v : Bool) → Settled (w .last .0)
-        (cond u (cond v (linkedOf (stored t (w .block)) (w .block) (a .b0) (a .b1) (w .last .0)) (answered tableFull t (w .last .0) [])) (answered (a .answer) t (w .last .0) (waitOf w a)))
-    cases true true = settled-linked (stored t (w .block)) (w .block) (a .b0) (a .b1) (w .last .0)
-    cases true false = settled-none tableFull t (w .last .0) [] silent-none
-    cases false v = settled-none (a .answer) t (w .last .0) (waitOf w a) (silent-wait w a)
+    cases : (u : Bool) → eqb (ancestorsOf t (w .block) .answer) 0 ≡ u → (v : Bool) → Settled (w .block) t (w .last .0)
+        (cond u (cond v (linkedOf (stored t (w .block)) (w .block) (ancestorsOf t (w .block) .b0) (ancestorsOf t (w .block) .b1) (w .last .0)) (answered tableFull t (w .last .0) []))
+        (answered (ancestorsOf t (w .block) .answer) t (w .last .0) (waitOf w (ancestorsOf t (w .block)))))
+    cases true e true = settled-linked t (w .block) (w .last .0) (eqb-true _ _ e)
+    cases true e false = settled-none tableFull (w .block) t (w .last .0) [] silent-none
+    cases false e v = settled-none (ancestorsOf t (w .block) .answer) (w .block) t (w .last .0) (waitOf w (ancestorsOf t (w .block))) (silent-wait w (ancestorsOf t (w .block)))
 
-pub settled-for : (s : State) (t : List Slot) (b : Block) → Settled (committedIn (s .core)) (settledFor s t b)
+pub settled-for : (s : State) (t : List Slot) (b : Block) → Settled (slotFor b) t (committedIn (s .core)) (settledFor s t b)
 unfolding settledFor
 settled-for s t b =
     let w = workFor b (s .core .«last_committed_round») 0 in
-    rw (settled-block t w refl) (settled-by t w (ancestorsOf t (w .block)))
+    rw (settled-block t w refl) (settled-by t w)
+
+-- ---- what is delivered
+
+pub commit-of : (b0 : Slot) (t : List Slot) (low : ℕ) (blocks : List Slot) → low < b0 .round .0 → walkOf t b0 low ≡ delivers blocks
+    → commitOf t b0 low ≡ record { answer = 0; last = b0 .round .0; blocks = blocks }
+unfolding commitOf
+commit-of b0 t low blocks h e = rw (lt-ltb _ _ h, e)
+
+-- the rounds rise strictly, from above the old last committed round to the new one
+pub deliveries-rising : {b : Slot} {t t′ blocks : List Slot} {low high : ℕ} → Deliveries b t t′ low blocks high → Rising low blocks high
+unfolding Rising
+deliveries-rising (none e f) = rw (e, f) refl
+deliveries-rising {b} {t} {t′} {blocks} {low} (some k) =
+    let e = commit-of (ancestorsOf t b .b0) t′ low blocks (k .newer) (k .walk) in
+    rw (k .last) (rw e at (commit-rising t′ (ancestorsOf t b .b0) low))
 
 -- ---- LOOPBACK and PROPOSE
 
-pub record Treats (total : ℕ) (b : Block) (s : State) (a : Step) : Type 0 where
+-- a QC that was taken is not above the high QC
+raised-high : (c : Core) (q : QC) → q .round .0 ≤ highIn (raised c q)
+unfolding raised
+raised-high c q = cases (ltb (highIn c) (q .round .0)) refl
+  where
+    cases : (u : Bool) → ltb (highIn c) (q .round .0) ≡ u → q .round .0 ≤ highIn (cond u (withHigh c q) c)
+    cases true e = le-refl _
+    cases false e = ltb-false _ _ e
+
+pub taken-high : (s : State) (q : QC) → q .round .0 ≤ highIn (takenQC s q .state .core)
+taken-high s q = rw (taken-is s q) (raised-high (advanced s (q .round .0) .state .core) q)
+
+-- so is the QC of a proposal that goes on
+proposal-high : (m : List ℕ) (s : State) (b : Block) (r : List ℕ) (payload : ℕ) → length (s .votes) ≡ votesLength → length (s .timeouts) ≡ timeoutsLength
+    → proposalOf m s b r payload .goesOn ≡ true → b .«qc_round» .0 ≤ highIn (proposalOf m s b r payload .out .left .state .core)
+unfolding taken
+proposal-high m s b r payload long wide e =
+    let q = qcOf (b .«qc_hash») (b .«qc_round» .0) (signersOf (qcFound m r)) in
+    let k = taken-keeps 0 s long wide q in
+    rw (proposal-goes-on m s b r payload e)
+    (le-trans (taken-high s q) (advanced-tc-keeps 0 (takenQC s q .state) (k .votes ∙ long) (k .timeouts ∙ wide) b .high))
+
+pub record Treats (total : ℕ) (b : Block) (q : ℕ) (t t′ : List Slot) (s : State) (a : Step) : Type 0 where
   pub stays : Stays total s (a .state)
-  pub casts : Casts b (s .core) a
-  pub delivers : Delivers (committedIn (s .core)) a
+  pub casts : Casts b q (s .core) a
+  pub delivers : Delivers (slotFor b) t t′ (committedIn (s .core)) a
+  pub stores : Stores (slotFor b) t t′
   pub below : highIn (s .core) < roundIn (s .core) → highIn (a .state .core) < roundIn (a .state .core)
   pub within : votedIn (s .core) ≤ roundIn (s .core) → votedIn (a .state .core) ≤ roundIn (a .state .core)
 
 -- records that sign nothing, in front
-casts-after : {b : Block} {c : Core} (a : Step) (x : Step) → signedIn (a .outs) ≡ [] → votedIn (a .state .core) ≡ votedIn c → Casts b (a .state .core) x
-    → Casts b c (record { state = x .state; outs = a .outs ++ x .outs })
-casts-after a x e v (skips f w) = skips (only-append isSigned (a .outs) (x .outs) ∙ rw (e, f)) (w ∙ v)
-casts-after a x e v (casts to f n r w) = casts to (only-append isSigned (a .outs) (x .outs) ∙ rw (e, f)) (rw v at n) r w
+module _ {b : Block} {q : ℕ} {c : Core} (a x : Step) (e : signedIn (a .outs) ≡ []) (v : votedIn (a .state .core) ≡ votedIn c) (h : highIn c ≤ highIn (a .state .core))
+    (l : highIn c < roundIn c → highIn (a .state .core) < roundIn (a .state .core)) where
+  casts-after : Casts b q (a .state .core) x → Casts b q c (record { state = x .state; outs = a .outs ++ x .outs })
+  casts-after (skips f w) = skips (only-append isSigned (a .outs) (x .outs) ∙ rw (e, f)) (w ∙ v)
+  casts-after (casts k) =
+      casts
+      (record {
+        to = k .to;
+        is = only-append isSigned (a .outs) (x .outs) ∙ rw (e, k .is);
+        newer = rw v at (k .newer);
+        rule = k .rule;
+        now = k .now;
+        at = k .at;
+        current = k .current;
+        before = le-trans h (k .before);
+        after = k .after;
+        below = λ u. k .below (l u);
+        took = k .took;
+      })
 
-treats-settled : (total : ℕ) (b : Block) (s : State) (p : Settlement) → Settled (committedIn (s .core)) p → Treats total b s (settledStep s p)
-treats-settled total b s p h =
-    record {
-      stays = stays-core total s (withCommitted (s .core) (p .last)) refl refl;
-      casts = skips (h .signs) refl;
-      delivers = record { blocks = h .blocks; are = h .are; rise = h .rise };
-      below = λ k. k;
-      within = λ k. k;
-    }
+module _ (total : ℕ) (b : Block) (q : ℕ) (t : List Slot) (s : State) (p : Settlement) (h : Settled (slotFor b) t (committedIn (s .core)) p) where
+  treats-settled : Treats total b q t (p .table) s (settledStep s p)
+  treats-settled =
+      record {
+        stays = stays-core total s (withCommitted (s .core) (p .last)) refl refl;
+        casts = skips (h .signs) refl;
+        delivers = record { blocks = h .blocks; are = h .are; by = h .by };
+        stores = h .stores;
+        below = λ k. k;
+        within = λ k. k;
+      }
 
--- and then the vote
-treats-votes : (total : ℕ) (b : Block) (s : State) (p : Settlement) (x : Step) → Settled (committedIn (s .core)) p → Votes total b (settledStep s p .state) x
-    → Treats total b s (record { state = x .state; outs = p .outs ++ x .outs })
-treats-votes total b s p x h v =
-    record {
-      stays = stays-then (stays-core total s (withCommitted (s .core) (p .last)) refl refl) (v .stays);
-      casts = casts-after (settledStep s p) x (h .signs) refl (v .casts);
-      delivers =
-          record {
-            blocks = h .blocks;
-            are = only-append isCommit (p .outs) (x .outs) ∙ rw (v .delivers) (append-nil _ ∙ h .are);
-            rise = rw (v .committed) (h .rise);
-          };
-      below = v .below;
-      within = v .within;
-    }
+  -- and then the vote
+  treats-votes : (x : Step) → Votes total b q (settledStep s p .state) x → Treats total b q t (p .table) s (record { state = x .state; outs = p .outs ++ x .outs })
+  treats-votes x v =
+      record {
+        stays = stays-then (stays-core total s (withCommitted (s .core) (p .last)) refl refl) (v .stays);
+        casts = casts-after (settledStep s p) x (h .signs) refl (le-refl _) (λ k. k) (v .casts);
+        delivers =
+            record {
+              blocks = h .blocks;
+              are = only-append isCommit (p .outs) (x .outs) ∙ rw (v .delivers) (append-nil _ ∙ h .are);
+              by = rw (v .committed) (h .by);
+            };
+        stores = h .stores;
+        below = v .below;
+        within = v .within;
+      }
 
 module _ (total : ℕ) (m : List ℕ) (own : ℕ) (low : quorumOf m ≤ suc total) (b : Block) (t : List Slot) where
-  pub treats-processed : (s : State) → length (s .votes) ≡ votesLength → length (s .timeouts) ≡ timeoutsLength → Treats total b s (processed m own t b s .left)
-  unfolding processed afterSettled
-  treats-processed s long wide = cases (eqb (settledFor s t b .answer) 0)
+  pub treats-processed : (q : ℕ) (s : State) → q ≤ highIn (s .core) → length (s .votes) ≡ votesLength → length (s .timeouts) ≡ timeoutsLength
+      → Treats total b q t (processedTable t b s) s (processed m own t b s .left)
+  unfolding processed processedTable afterSettled
+  treats-processed q s u long wide = cases (eqb (settledFor s t b .answer) 0)
     where
-      cases : (u : Bool) → Treats total b s
-          (cond u (after (settledStep s (settledFor s t b)) (voting m own b)) (done (settledFor s t b .answer) (settledStep s (settledFor s t b))) .left)
+      cases : (v : Bool) → Treats total b q t (settledFor s t b .table) s
+          (cond v (after (settledStep s (settledFor s t b)) (voting m own b)) (done (settledFor s t b .answer) (settledStep s (settledFor s t b))) .left)
       cases true =
-          treats-votes total b s (settledFor s t b) (voting m own b (settledStep s (settledFor s t b) .state) .left) (settled-for s t b)
-          (votes-voting total m own low b (settledStep s (settledFor s t b) .state) long wide)
-      cases false = treats-settled total b s (settledFor s t b) (settled-for s t b)
+          treats-votes total b q t s (settledFor s t b) (settled-for s t b) (voting m own b (settledStep s (settledFor s t b) .state) .left)
+          (votes-voting total m own low b q (settledStep s (settledFor s t b) .state) u long wide)
+      cases false = treats-settled total b q t s (settledFor s t b) (settled-for s t b)
 
   -- what votes for nothing and commits nothing, in front
-  treats-after : (s : State) (a x : Step) → Keeps total s (a .state) → Plain (s .core) a → Treats total b (a .state) x → Treats total b s (record { state = x .state; outs = a .outs ++ x .outs })
-  treats-after s a x k p h =
+  treats-after : (q : ℕ) (t′ : List Slot) (s : State) (a x : Step) → Keeps total s (a .state) → Plain (s .core) a → Treats total b q t t′ (a .state) x
+      → Treats total b q t t′ s (record { state = x .state; outs = a .outs ++ x .outs })
+  treats-after q t′ s a x k p h =
       let same : votedIn (a .state .core) ≡ votedIn (s .core) = ap (λ r. r .0) (k .voted) in
       let last : committedIn (a .state .core) ≡ committedIn (s .core) = ap (λ r. r .0) (k .committed) in
       record {
         stays = stays-then (stays-keeps k) (h .stays);
-        casts = casts-after a x (p .silent .signs) same (h .casts);
+        casts = casts-after a x (p .silent .signs) same (k .high) (p .below) (h .casts);
         delivers =
             record {
               blocks = h .delivers .blocks;
               are = only-append isCommit (a .outs) (x .outs) ∙ rw (p .silent .delivers) (h .delivers .are);
-              rise = rw last at (h .delivers .rise);
+              by = rw last at (h .delivers .by);
             };
+        stores = h .stores;
         below = λ u. h .below (p .below u);
         within = λ u. h .within (omega (arith, k .round));
       }
 
-  treats-plain : (s : State) (a : Step) → Keeps total s (a .state) → Plain (s .core) a → Treats total b s a
-  treats-plain s a k p =
-      let l = lawful-plain k p in
+  treats-plain : (q : ℕ) (s : State) (a : Step) → Keeps total s (a .state) → Plain (s .core) a → Treats total b q t t s a
+  treats-plain q s a k p =
+      let l = lawful-plain b q t k p in
       record {
         stays = l .stays;
         casts = skips (p .silent .signs) (ap (λ r. r .0) (k .voted));
         delivers = l .delivers;
+        stores = l .stores;
         below = l .below;
         within = l .within;
       }
 
   pub treats-proposed : (s : State) → length (s .votes) ≡ votesLength → length (s .timeouts) ≡ timeoutsLength → (r : List ℕ) (payload : ℕ)
-      → Treats total b s (goingOn m own t b (proposalOf m s b r payload) .left)
-  unfolding goingOn
-  treats-proposed s long wide r payload = cases (proposalOf m s b r payload) (proposal-keeps total s long wide m b r payload) (plain-proposal m s b r payload)
+      → Treats total b (b .«qc_round» .0) t (goingOnTable t b (proposalOf m s b r payload)) s (goingOn m own t b (proposalOf m s b r payload) .left)
+  unfolding goingOn goingOnTable
+  treats-proposed s long wide r payload =
+      cases (proposalOf m s b r payload .goesOn) (proposalOf m s b r payload .out) (proposal-keeps total s long wide m b r payload) (plain-proposal m s b r payload)
+      (λ e. proposal-high m s b r payload long wide e)
     where
-      by-goes : (u : Bool) (o : Outcome) → Keeps total s (o .left .state) → Plain (s .core) (o .left) → Treats total b s (cond u (after (o .left) (processed m own t b)) o .left)
-      by-goes true o k p =
-          treats-after s (o .left) (processed m own t b (o .left .state) .left) k p (treats-processed (o .left .state) (k .votes ∙ long) (k .timeouts ∙ wide))
-      by-goes false o k p = treats-plain s (o .left) k p
+      cases : (u : Bool) (o : Outcome) → Keeps total s (o .left .state) → Plain (s .core) (o .left) → (u ≡ true → b .«qc_round» .0 ≤ highIn (o .left .state .core))
+          → Treats total b (b .«qc_round» .0) t (cond u (processedTable t b (o .left .state)) t) s (cond u (after (o .left) (processed m own t b)) o .left)
+      cases true o k p h =
+          treats-after (b .«qc_round» .0) (processedTable t b (o .left .state)) s (o .left) (processed m own t b (o .left .state) .left) k p
+          (treats-processed (b .«qc_round» .0) (o .left .state) (h refl) (k .votes ∙ long) (k .timeouts ∙ wide))
+      cases false o k p h = treats-plain (b .«qc_round» .0) s (o .left) k p
 
-      cases : (q : Proposal) → Keeps total s (q .out .left .state) → Plain (s .core) (q .out .left) → Treats total b s (cond (q .goesOn) (after (q .out .left) (processed m own t b)) (q .out) .left)
-      cases q k p = by-goes (q .goesOn) (q .out) k p
-
-signs-casts : {b : Block} {c : Core} {a : Step} → Casts b c a → Signs c a
+signs-casts : {b : Block} {q : ℕ} {c : Core} {a : Step} → Casts b q c a → Signs b q c a
 signs-casts (skips e v) = nothing e v
-signs-casts {b} (casts to e n r v) = ballot to b e n r v
+signs-casts (casts k) = ballot k
 
-pub lawful-treats : {total : ℕ} {b : Block} {s : State} {a : Step} → Treats total b s a → Lawful total s a
-lawful-treats h = record { stays = h .stays; signs = signs-casts (h .casts); delivers = h .delivers; below = h .below; within = h .within }
+pub lawful-treats : {total : ℕ} {b : Block} {q : ℕ} {t t′ : List Slot} {s : State} {a : Step} → Treats total b q t t′ s a → Lawful total b q t t′ s a
+lawful-treats h = record { stays = h .stays; signs = signs-casts (h .casts); delivers = h .delivers; stores = h .stores; below = h .below; within = h .within }

@@ -13,3 +13,4 @@ pub mod Handled
 pub mod Invariant
 pub mod OneDigest
 pub mod Example
+pub mod Laws

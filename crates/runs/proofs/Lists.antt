@@ -3,10 +3,13 @@
 --     only-head, only-skip            in a list, by its first record
 --     written-only, behind-only       what stands in a list, or behind another record, stands so among those looked for
 --     written-ordered                 two records of one list are the same, or one stands behind the other
+--     written-none, written-one       what stands in a list of no record, and of one
 use mathlib.Core.Bool.{Bool, true, false, cond}
 use mathlib.Core.List.{List, [], _∷_, _++_}
 use mathlib.Core.Logic.{_⊎_, inl, inr}
 use mathlib.Core.Path.{_≡_, refl, sym, _∙_, ap}
+use native.Mathlib.Omega.{arith}
+use lib.ListN.{length, length-append}
 use Rattle.outputs.specs.Records.{Rec}
 use Rattle.runs.specs.Runs.{Written, Behind, only}
 
@@ -67,3 +70,18 @@ ordered a b (x ∷ xs) ys (z ∷ xs′) ys′ e = let f : xs ++ (a ∷ ys) ≡ x
 
 pub written-ordered : {a b : Rec} {rs : List Rec} → Written a rs → Written b rs → (a ≡ b) ⊎ (Behind a b rs ⊎ Behind b a rs)
 written-ordered {a} {b} p q = rw (p .is) (ordered a b (p .before) (p .rest) (q .before) (q .rest) (sym (p .is) ∙ q .is))
+
+-- ---- short lists
+
+none-at : (a : Rec) (xs ys : List Rec) → [] ≡ xs ++ (a ∷ ys) → ⊥
+none-at a xs ys e = omega (arith, simp length-append at (ap length e))
+
+pub written-none : {a : Rec} → Written a [] → ⊥
+written-none {a} w = none-at a (w .before) (w .rest) (w .is)
+
+one-at : (a b : Rec) (xs ys : List Rec) → b ∷ [] ≡ xs ++ (a ∷ ys) → a ≡ b
+one-at a b [] ys e = cc
+one-at a b (x ∷ xs) ys e = let f : [] ≡ xs ++ (a ∷ ys) = cc in absurd (none-at a xs ys f)
+
+pub written-one : {a b : Rec} → Written a (b ∷ []) → a ≡ b
+written-one {a} {b} w = one-at a b (w .before) (w .rest) (w .is)

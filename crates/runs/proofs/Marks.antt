@@ -6,10 +6,11 @@
 --     marked-append, marked-le   two lists in a row; a mark never falls
 --     marked-above               a record that stands above the mark
 --     marked-behind              .. and behind another
+--     marked-within, marked-last   the mark after a list is not below its records, and is the round of the last that stands above
 use Prim.Native.Nat.{ℕ, _≤_, _<_}
 use mathlib.Core.Bool.{Bool, true, false, cond}
 use mathlib.Core.List.{List, [], _∷_, _++_}
-use mathlib.Core.Path.{_≡_, refl, sym, _∙_, ap}
+use mathlib.Core.Path.{_≡_, refl, sym, _∙_}
 use native.Mathlib.Omega.{arith}
 use borrow.Author.Tests.{ltb-true, ltb-false}
 use lib.Dec.{ltb}
@@ -89,3 +90,12 @@ module _ (f : Rec → Mark) where
   unfolding Marked
   marked-within a b [] ys x h = omega (arith, next-round (f x) a, marked-le (next (f x) a) b ys (h .1))
   marked-within a b (w ∷ xs) ys x h = marked-within (next (f w) a) b xs ys x (h .1)
+
+  next-above : (m : Mark) (a n : ℕ) → m ≡ above n → next m a ≡ n
+  next-above m a n e = rw e
+
+  -- the mark after a list that ends with a record that stands above
+  pub marked-last : (a b n : ℕ) (xs : List Rec) (y : Rec) → f y ≡ above n → Marked f a (xs ++ (y ∷ [])) b → b ≡ n
+  unfolding Marked
+  marked-last a b n [] y e h = sym (h .1) ∙ next-above (f y) a n e
+  marked-last a b n (x ∷ xs) y e h = marked-last (next (f x) a) b n xs y e (h .1)

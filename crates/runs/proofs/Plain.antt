@@ -6,17 +6,16 @@
 --     plain-advanced .. plain-timeout-tallied                 the moves
 --     plain-vote, plain-own-vote, plain-timeout, plain-own-timeout, plain-tc, plain-proposal     the handlers
 --     plain-announced                                         START
-use Prim.Native.Nat.{ℕ, _+_, _≤_, _<_}
+use Prim.Native.Nat.{ℕ, _<_}
 use mathlib.Core.Bool.{Bool, true, false, cond}
 use mathlib.Core.List.{List, [], _∷_, _++_}
-use mathlib.Core.Path.{_≡_, refl, sym, _∙_, ap}
+use mathlib.Core.Path.{_≡_, refl}
 use native.Mathlib.Omega.{arith}
 use borrow.Author.Tests.{ltb-true, ltb-false}
 use lib.Dec.{ltb, eqb}
 use Rattle.certificates.specs.declared.numbers.Hash.{Hash}
 use Rattle.certificates.specs.declared.numbers.Signers.{Signers}
 use Rattle.certificates.specs.declared.messages.QC.{QC}
-use Rattle.certificates.specs.declared.messages.Checked.{Checked}
 use Rattle.certificates.specs.Config.{stakeOf, quorumOf}
 use Rattle.certificates.specs.Messages.{embeddedCheck, tcCheck, authorCheck}
 use Rattle.certificates.specs.Error.{qcRequiresQuorum, tcRequiresQuorum, numberOf, authorNumber}
@@ -29,18 +28,18 @@ use Rattle.aggregator.specs.declared.tallies.Added.{Added}
 use Rattle.aggregator.specs.declared.tallies.Added.the-variants.{NoRoom, Used, More, Full}
 use Rattle.aggregator.specs.Tallies.{highsAt, voteAdded, votesAfter, timeoutAdded, timeoutsAfter}
 use Rattle.moves.specs.declared.state.Core.{Core}
-use Rattle.moves.specs.State.{State, withCore, withVotes, withTimeouts}
-use Rattle.moves.specs.Outcome.{Step, Outcome, quiet, wrote, andThen, done, after, refused, checked}
-use Rattle.moves.specs.Moves.{inNewRound, advanced, raised, takenQC, makeOf, makeWithOf, leads, certified, tcOuts, timedOut}
+use Rattle.moves.specs.State.{State, withVotes, withTimeouts}
+use Rattle.moves.specs.Outcome.{Step, Outcome, quiet, andThen, done, refused}
+use Rattle.moves.specs.Moves.{advanced, raised, takenQC, makeOf, makeWithOf, leads, certified, tcOuts, timedOut}
 use Rattle.moves.specs.Tallied.{qcOf, afterVote, voteTallied, afterTimeout, timeoutTallied}
-use Rattle.moves.proofs.MoveLaws.{advanced-below, advanced-at, raised-above, raised-not, taken-is, certified-is, timed-out-is, tc-outs-is}
+use Rattle.moves.proofs.MoveLaws.{advanced-below, advanced-at, taken-is, certified-is, timed-out-is, tc-outs-is}
 use Rattle.moves.proofs.TallyLaws.{vote-tallied-is, timeout-tallied-is}
 use Rattle.handlers.specs.Sound.{first, signersOf}
 use Rattle.handlers.specs.Votes.{voteCheck, handledVote, ownVote}
 use Rattle.handlers.specs.Timeouts.{timeoutCheck, timeoutTaken, timeoutWith, handledTimeout, tcTaken, staleIf, tcWith, handledTC, ownTimeout}
-use Rattle.handlers.specs.Proposals.{qcFound, proposalCheck, advancedTC, taken, byPayload, payloadNumber, proposalWith, proposalOf}
+use Rattle.handlers.specs.Proposals.{qcFound, proposalCheck, advancedTC, taken, byPayload, proposalWith, proposalOf}
 use Rattle.replica.specs.Step.{announced}
-use Rattle.runs.specs.Runs.{only, isSigned, isCommit, signedIn, deliveredIn}
+use Rattle.runs.specs.Runs.{only, signedIn, deliveredIn}
 use Rattle.runs.proofs.Lists.{only-append}
 
 abbrev pub roundIn : Core → ℕ

@@ -3,11 +3,14 @@
 --     step-voted, step-committed       one event, from a world that counts as started
 --     events-started                   after any events the world counts as started
 --     events-voted, events-committed   any events
---     run-started, run-voted, run-committed    a run
+--     Ordered w, events-ordered        the high QC is below the round, and last voted not above it
+--     run-starts, origin-started, run-started, run-voted, run-committed, run-ordered    a run
 use Prim.Native.Nat.{ℕ, _≤_, _<_}
-use mathlib.Core.List.{List, [], _∷_, _++_, map}
-use mathlib.Core.Path.{_≡_, refl, sym, _∙_, ap}
+use native.Mathlib.Omega.{arith}
+use mathlib.Core.List.{List, [], _∷_, map}
+use mathlib.Core.Path.{_≡_, refl, sym, ap}
 use Rattle.certificates.specs.declared.numbers.Stake.{Stake}
+use Rattle.trace.specs.declared.events.Block.{Block}
 use Rattle.outputs.specs.Records.{Rec, vote, timeout, tc, make, makeWith, commit, sync, cleanProposer, cleanMempool, timerReset, answer}
 use Rattle.synchronizer.specs.declared.table.Slot.{Slot}
 use Rattle.synchronizer.specs.Settle.{commitRec}
@@ -15,10 +18,10 @@ use Rattle.synchronizer.proofs.WalkLaws.{Rising}
 use Rattle.moves.specs.declared.state.Core.{Core}
 use Rattle.moves.specs.Outcome.{Step}
 use Rattle.replica.specs.Step.{World, Result}
-use Rattle.runs.specs.Runs.{Event, stepOn, worldAfter, outsOf, Run, origin, end, outputs, only, isSigned, isCommit, signedIn, deliveredIn, votedOf, committedOf}
+use Rattle.runs.specs.Runs.{Event, stepOn, worldAfter, outsOf, Run, origin, end, outputs, only, isSigned, isCommit, signedIn, deliveredIn, roundOf, votedOf, committedOf, highOf}
 use Rattle.runs.proofs.Lists.{only-append}
 use Rattle.runs.proofs.Marks.{Mark, skip, above, reach, Marked, marked-append}
-use Rattle.runs.proofs.Lawful.{votedIn, committedIn, Signs, nothing, ballot, expiry, Delivers}
+use Rattle.runs.proofs.Lawful.{votedIn, committedIn, Signs, nothing, ballot, expiry, Delivers, deliveries-rising}
 use Rattle.runs.proofs.Steps.{Started, step-lawful, started-again, Starts, starts, start-started, start-silent}
 
 -- a VOTE stands above last voted and becomes it; a TIMEOUT raises it
@@ -51,26 +54,26 @@ commitMark (answer n) = skip
 
 -- ---- one event
 
-signs-marked : (c : Core) (a : Step) → Signs c a → Marked voteMark (votedIn c) (signedIn (a .outs)) (votedIn (a .state .core))
+signs-marked : {b : Block} {q : ℕ} {c : Core} {a : Step} → Signs b q c a → Marked voteMark (votedIn c) (signedIn (a .outs)) (votedIn (a .state .core))
 unfolding Marked
-signs-marked c a (nothing e v) = rw e (sym v)
-signs-marked c a (ballot to b e n r v) = rw e (n, sym v)
-signs-marked c a (expiry e v) = rw e (tt, sym v)
+signs-marked (nothing e v) = rw e (sym v)
+signs-marked (ballot k) = rw (k .is) (k .newer, sym (k .now))
+signs-marked (expiry e v) = rw e (tt, sym v)
 
 rising-marked : (low high : ℕ) (bs : List Slot) → Rising low bs high → Marked commitMark low (map commitRec bs) high
 unfolding Marked Rising
 rising-marked low high [] e = e
 rising-marked low high (b ∷ bs) h = (h .0, rising-marked (b .round .0) high bs (h .1))
 
-delivers-marked : (low : ℕ) (a : Step) → Delivers low a → Marked commitMark low (deliveredIn (a .outs)) (committedIn (a .state .core))
-delivers-marked low a d = rw (d .are) (rising-marked low (committedIn (a .state .core)) (d .blocks) (d .rise))
+delivers-marked : {b : Slot} {t t′ : List Slot} {low : ℕ} {a : Step} → Delivers b t t′ low a → Marked commitMark low (deliveredIn (a .outs)) (committedIn (a .state .core))
+delivers-marked {low = low} {a = a} d = rw (d .are) (rising-marked low (committedIn (a .state .core)) (d .blocks) (deliveries-rising (d .by)))
 
 module _ (w : World) (e : Event) (t : Stake) (s : Started w t) where
   pub step-voted : Marked voteMark (votedOf w) (signedIn (stepOn w e .outs)) (votedOf (stepOn w e .world))
-  step-voted = signs-marked _ _ (step-lawful w e t s .lawful .signs)
+  step-voted = signs-marked (step-lawful w e t s .lawful .signs)
 
   pub step-committed : Marked commitMark (committedOf w) (deliveredIn (stepOn w e .outs)) (committedOf (stepOn w e .world))
-  step-committed = delivers-marked _ _ (step-lawful w e t s .lawful .delivers)
+  step-committed = delivers-marked (step-lawful w e t s .lawful .delivers)
 
 -- ---- any events
 
@@ -97,6 +100,17 @@ events-committed w (e ∷ es) t s =
     (marked-append commitMark (committedOf w) (committedOf u) (committedOf (worldAfter u es)) (deliveredIn (stepOn w e .outs)) (deliveredIn (outsOf u es)) (step-committed w e t s)
     (events-committed u es t (started-again w e t s)))
 
+pub record Ordered (w : World) : Type 0 where
+  pub high : highOf w < roundOf w
+  pub voted : votedOf w ≤ roundOf w
+
+pub events-ordered : (w : World) (es : List Event) (t : Stake) → Started w t → Ordered w → Ordered (worldAfter w es)
+unfolding worldAfter
+events-ordered w [] t s h = h
+events-ordered w (e ∷ es) t s h =
+    let k = step-lawful w e t s .lawful in
+    events-ordered (stepOn w e .world) es t (started-again w e t s) (record { high = k .below (h .high); voted = k .within (h .voted) })
+
 -- ---- a run
 
 module _ (r : Run) where
@@ -120,3 +134,10 @@ module _ (r : Run) where
       let v : committedOf (origin r) ≡ 0 = ap (λ (x : Result). committedOf (x .world)) (run-starts .is) in
       let k = events-committed (origin r) (r .events) (run-starts .total) origin-started in
       rw (only-append isCommit (stepOn (r .lent) (r .start) .outs) (outsOf (origin r) (r .events)), start-silent (r .lent) (r .start) run-starts .delivers) (rw v at k)
+
+  pub run-ordered : Ordered (end r)
+  run-ordered =
+      let v : votedOf (origin r) ≡ 0 = ap (λ (x : Result). votedOf (x .world)) (run-starts .is) in
+      let h : highOf (origin r) ≡ 0 = ap (λ (x : Result). highOf (x .world)) (run-starts .is) in
+      let n : roundOf (origin r) ≡ 1 = ap (λ (x : Result). roundOf (x .world)) (run-starts .is) in
+      events-ordered (origin r) (r .events) (run-starts .total) origin-started (record { high = omega arith; voted = omega arith })

@@ -1,21 +1,22 @@
 -- One event, from a world that counts as started. Assumes nothing.
 --     stepIn x                        the state and the records of a result
---     Steps total w x                 members, stakes, own place and the table's length stay, and the state moves by the laws of `Lawful`
+--     tookBy k b                      the round that the high QC has reached when the block b of an event of kind k is voted for
+--     Steps total w r k x             of the record r of kind k: members, stakes, own place and the table's length stay, and the state moves by the laws of `Lawful`
 --     steps-refused, step-lawful      a refusal; any event
 --     Started w t, started-again      the world counts as started with the total stake t; it does after any event
 --     start-world, start-started      a START that was taken: the world that it leaves, which counts as started
 --     start-silent                    .. and that it signs and delivers nothing
-use Prim.Native.Nat.{ℕ, suc, _+_, _≤_, _<_}
-use mathlib.Core.Bool.{Bool, true, false, cond, true≢false}
-use mathlib.Core.List.{List, [], _∷_, _++_}
+use Prim.Native.Nat.{ℕ, suc, _≤_}
+use mathlib.Core.Bool.{Bool, true, false, cond}
+use mathlib.Core.List.{List}
 use mathlib.Core.Path.{_≡_, refl, sym, _∙_, ap}
 use native.Mathlib.Omega.{arith}
-use borrow.Author.Tests.{eq-eqb, lt-ltb, le-leb}
-use lib.Dec.{eqb, ltb, leb}
-use lib.ListN.{length, take, drop, replicate, length-replicate}
-use Rattle.certificates.specs.Config.{membersMax, sum, quorumFrom, quorumOf, setupOf}
-use Rattle.certificates.specs.Start.{memberCount, ownPlace, setupAt, loadedStakes}
-use Rattle.certificates.specs.Error.{badRecord, badSetup, noRoom, notStarted, startedAgain}
+use borrow.Author.Tests.{eq-eqb}
+use lib.Dec.{eqb}
+use lib.ListN.{length, drop, length-replicate}
+use Rattle.certificates.specs.Config.{membersMax, quorumFrom, quorumOf, setupOf}
+use Rattle.certificates.specs.Start.{setupAt, loadedStakes}
+use Rattle.certificates.specs.Error.{badRecord, noRoom, startedAgain}
 use Rattle.certificates.specs.declared.numbers.Stake.{Stake}
 use Rattle.certificates.specs.declared.config.Setup.{Setup}
 use Rattle.certificates.specs.declared.config.Setup.the-variants.{Bad, Total}
@@ -33,14 +34,14 @@ use Rattle.synchronizer.specs.declared.table.Slot.{Slot}
 use Rattle.synchronizer.specs.Table.{cleared}
 use Rattle.synchronizer.proofs.SettleLaws.{settled-length}
 use Rattle.moves.specs.State.{State}
-use Rattle.moves.specs.Outcome.{Step, Outcome, quiet}
+use Rattle.moves.specs.Outcome.{Step}
 use Rattle.moves.proofs.MoveLaws.{keeps-none}
 use Rattle.handlers.specs.Proposals.{Proposal, proposalOf}
 use Rattle.handlers.proofs.VoteTheorems.{vote-keeps}
 use Rattle.replica.specs.declared.started.Seat.{Seat}
-use Rattle.replica.specs.Started.{membersOf, sized, shaped, lightIn, startedOf, roomy}
+use Rattle.replica.specs.Started.{membersOf, shaped, lightIn, startedOf, roomy}
 use Rattle.replica.specs.Blocks.{workFor, settledFor, processedTable, goingOnTable}
-use Rattle.replica.specs.Step.{World, Result, refusedIn, inWorld, newCore, newSeat, newStakes, newState, startOuts, begun, begunBy, committee, handled, started, sizedIn, onStart, onOther, onKind, stepped}
+use Rattle.replica.specs.Step.{World, Result, refusedIn, newCore, newSeat, newStakes, newState, startOuts, begun, begunBy, committee, handled, started, sizedIn, onStart, onOther, onKind, stepped}
 use Rattle.replica.proofs.StartedLaws.{Ready, started-ready, sized-all, shaped-all}
 use Rattle.runs.specs.Runs.{Event, stepOn, Begun}
 use Rattle.runs.proofs.Plain.{Silent, plain-quiet, plain-vote, plain-timeout, plain-tc, silent-announced}
@@ -49,20 +50,31 @@ use Rattle.runs.proofs.Lawful.{Stays, Lawful, lawful-plain, timeout-kee
 abbrev pub stepIn : Result → Step
 stepIn x = record { state = x .world .state; outs = x .outs }
 
-pub record Steps (total : ℕ) (w : World) (x : Result) : Type 0 where
+-- the round that the high QC has reached when a block of this kind of event is voted for
+abbrev pub tookBy : Kind → Block → ℕ
+tookBy Kind.Bad b = 0
+tookBy Kind.Start b = 0
+tookBy Kind.Propose b = b .«qc_round» .0
+tookBy Kind.Vote b = 0
+tookBy Kind.Timeout b = 0
+tookBy Kind.Tc b = 0
+tookBy Kind.Loopback b = 0
+tookBy Kind.Tick b = 0
+
+pub record Steps (total : ℕ) (w : World) (r : List ℕ) (k : Kind) (x : Result) : Type 0 where
   pub seat : x .world .seat ≡ w .seat
   pub stakes : x .world .stakes ≡ w .stakes
   pub slots : length (x .world .table) ≡ length (w .table)
-  pub lawful : Lawful total (w .state) (stepIn x)
+  pub lawful : Lawful total (blockOf r) (tookBy k (blockOf r)) (w .table) (x .world .table) (w .state) (stepIn x)
 
 abbrev pub Started : World → Stake → Type 0
 Started w t = started w ≡ Total t
 
 -- ---- the handlers
 
-steps-refused : (total n : ℕ) (w : World) → Steps total w (refusedIn n w)
-steps-refused total n w =
-    record { seat = refl; stakes = refl; slots = refl; lawful = lawful-plain (keeps-none total (w .state)) (plain-quiet (w .state)) }
+steps-refused : (total n : ℕ) (w : World) (r : List ℕ) (k : Kind) → Steps total w r k (refusedIn n w)
+steps-refused total n w r k =
+    record { seat = refl; stakes = refl; slots = refl; lawful = lawful-plain (blockOf r) (tookBy k (blockOf r)) (w .table) (keeps-none total (w .state)) (plain-quiet (w .state)) }
 
 processed-length : (t : List Slot) (b : Block) (s : State) → length (processedTable t b s) ≡ length t
 unfolding processedTable settledFor
@@ -87,9 +99,9 @@ module _ (w : World) (r : List ℕ) (t : Stake) (k : Ready (w .seat) (w .stakes)
   wide : length (w .state .timeouts) ≡ timeoutsLength
   wide = k .sound .wide
 
-  handled-lawful : (e : Kind) → Steps (t .0) w (handled w r e)
-  handled-lawful Kind.Bad = steps-refused (t .0) badRecord w
-  handled-lawful Kind.Start = steps-refused (t .0) startedAgain w
+  handled-lawful : (e : Kind) → Steps (t .0) w r e (handled w r e)
+  handled-lawful Kind.Bad = steps-refused (t .0) badRecord w r Kind.Bad
+  handled-lawful Kind.Start = steps-refused (t .0) startedAgain w r Kind.Start
   handled-lawful Kind.Propose =
       record {
         seat = refl;
@@ -103,7 +115,7 @@ module _ (w : World) (r : List ℕ) (t : Stake) (k : Ready (w .seat) (w .stakes)
         stakes = refl;
         slots = refl;
         lawful =
-            lawful-plain (vote-keeps (t .0) (committee w) (w .seat .own .0) low (w .state) long wide (voteOf r)) (plain-vote (committee w) (w .seat .own .0) (w .state) (voteOf r));
+            lawful-plain (blockOf r) 0 (w .table) (vote-keeps (t .0) (committee w) (w .seat .own .0) low (w .state) long wide (voteOf r)) (plain-vote (committee w) (w .seat .own .0) (w .state) (voteOf r));
       }
   handled-lawful Kind.Timeout =
       record {
@@ -111,7 +123,7 @@ module _ (w : World) (r : List ℕ) (t : Stake) (k : Ready (w .seat) (w .stakes)
         stakes = refl;
         slots = refl;
         lawful =
-            lawful-plain (timeout-keeps (t .0) (committee w) (w .seat .own .0) low (w .state) long wide (timeoutOf r) r)
+            lawful-plain (blockOf r) 0 (w .table) (timeout-keeps (t .0) (committee w) (w .seat .own .0) low (w .state) long wide (timeoutOf r) r)
             (plain-timeout (committee w) (w .seat .own .0) (w .state) (timeoutOf r) r);
       }
   handled-lawful Kind.Tc =
@@ -120,7 +132,7 @@ module _ (w : World) (r : List ℕ) (t : Stake) (k : Ready (w .seat) (w .stakes)
         stakes = refl;
         slots = refl;
         lawful =
-            lawful-plain (tc-keeps (t .0) (committee w) (w .seat .own .0) low (w .state) long wide (tcRound r tcBody) r)
+            lawful-plain (blockOf r) 0 (w .table) (tc-keeps (t .0) (committee w) (w .seat .own .0) low (w .state) long wide (tcRound r tcBody) r)
             (plain-tc (committee w) (w .seat .own .0) (w .state) (tcRound r tcBody) r);
       }
   handled-lawful Kind.Loopback =
@@ -128,32 +140,33 @@ module _ (w : World) (r : List ℕ) (t : Stake) (k : Ready (w .seat) (w .stakes)
         seat = refl;
         stakes = refl;
         slots = processed-length (w .table) (blockOf r) (w .state);
-        lawful = lawful-treats (treats-processed (t .0) (committee w) (w .seat .own .0) low (blockOf r) (w .table) (w .state) long wide);
+        lawful = lawful-treats (treats-processed (t .0) (committee w) (w .seat .own .0) low (blockOf r) (w .table) 0 (w .state) (omega arith) long wide);
       }
   handled-lawful Kind.Tick =
-      record { seat = refl; stakes = refl; slots = refl; lawful = lawful-tick (t .0) (committee w) (w .seat .own .0) low (w .state) long wide }
+      record { seat = refl; stakes = refl; slots = refl; lawful = lawful-tick (t .0) (committee w) (w .seat .own .0) low (blockOf r) 0 (w .table) (w .state) long wide }
 
 -- ---- any event
 
 -- a refusal by the room or the limits, or the event's own part
-limited-or : (total : ℕ) (w : World) (x : Result) (u v : Bool) (m n : ℕ) → Steps total w x → Steps total w (cond u (cond v x (refusedIn m w)) (refusedIn n w))
-limited-or total w x true true m n h = h
-limited-or total w x true false m n h = steps-refused total m w
-limited-or total w x false v m n h = steps-refused total n w
+limited-or : (total : ℕ) (w : World) (r : List ℕ) (k : Kind) (x : Result) (u v : Bool) (m n : ℕ) → Steps total w r k x
+    → Steps total w r k (cond u (cond v x (refusedIn m w)) (refusedIn n w))
+limited-or total w r k x true true m n h = h
+limited-or total w r k x true false m n h = steps-refused total m w r k
+limited-or total w r k x false v m n h = steps-refused total n w r k
 
-pub step-lawful : (w : World) (e : Event) (t : Stake) → Started w t → Steps (t .0) w (stepOn w e)
+pub step-lawful : (w : World) (e : Event) (t : Stake) → Started w t → Steps (t .0) w (e .bytes) (formOf (e .bytes)) (stepOn w e)
 unfolding stepped
 step-lawful w e t s = cases (formOf (e .bytes))
   where
-    other : (k : Kind) → Steps (t .0) w (onOther w (e .room) (e .bytes) k (started w))
+    other : (k : Kind) → Steps (t .0) w (e .bytes) k (onOther w (e .room) (e .bytes) k (started w))
     other k =
         rw s
-        (limited-or (t .0) w (handled w (e .bytes) k) (roomy (length (w .table)) (e .room)) (eqb (limitOf (e .bytes) k) 0) (limitOf (e .bytes) k) noRoom
+        (limited-or (t .0) w (e .bytes) k (handled w (e .bytes) k) (roomy (length (w .table)) (e .room)) (eqb (limitOf (e .bytes) k) 0) (limitOf (e .bytes) k) noRoom
         (handled-lawful w (e .bytes) t (started-ready (w .seat) (w .stakes) (w .state .votes) (w .state .timeouts) t s) k))
 
-    cases : (k : Kind) → Steps (t .0) w (onKind w (e .room) (e .bytes) k)
-    cases Kind.Bad = steps-refused (t .0) badRecord w
-    cases Kind.Start = rw s (steps-refused (t .0) startedAgain w)
+    cases : (k : Kind) → Steps (t .0) w (e .bytes) k (onKind w (e .room) (e .bytes) k)
+    cases Kind.Bad = steps-refused (t .0) badRecord w (e .bytes) Kind.Bad
+    cases Kind.Start = rw s (steps-refused (t .0) startedAgain w (e .bytes) Kind.Start)
     cases Kind.Propose = other Kind.Propose
     cases Kind.Vote = other Kind.Vote
     cases Kind.Timeout = other Kind.Timeout

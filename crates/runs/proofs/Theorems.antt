@@ -3,19 +3,26 @@
 --     no-vote-after-timeout       "none follows that round's timeout"
 --     deliveries-rise             "and delivered rounds strictly rise"
 --     one-vote                    two VOTEs of one round are one: they name the same block
+--     start-once                  no START is taken in a run but its first
+--     high-below-round, voted-within-round      the high QC is below the round, and last voted not above it
 --     votes-recorded, timeouts-recorded, deliveries-recorded      last voted and last committed are not below any round in what was written
 use Prim.Native.Nat.{ℕ, _≤_, _<_}
-use mathlib.Core.List.{List, [], _∷_, _++_}
+use mathlib.Core.List.{List}
 use mathlib.Core.Logic.{_⊎_, inl, inr}
-use mathlib.Core.Path.{_≡_, refl, sym, _∙_, ap}
+use mathlib.Core.Path.{_≡_, refl}
 use native.Mathlib.Omega.{arith}
 use Rattle.certificates.specs.declared.numbers.Hash.{Hash}
 use Rattle.certificates.specs.declared.messages.QC.{QC}
+use Rattle.certificates.specs.Error.{startedAgain}
+use Rattle.trace.specs.declared.events.Kind.{Kind}
+use Rattle.trace.specs.Form.{formOf}
 use Rattle.outputs.specs.Records.{Rec, vote, timeout, commit}
-use Rattle.runs.specs.Runs.{Run, end, outputs, Written, Behind, isSigned, isCommit, signedIn, deliveredIn, votedOf, committedOf}
+use Rattle.replica.specs.Step.{refusedIn}
+use Rattle.replica.proofs.Theorems.{again}
+use Rattle.runs.specs.Runs.{Event, stepOn, Run, end, outputs, Written, Behind, isSigned, isCommit, roundOf, votedOf, committedOf, highOf}
 use Rattle.runs.proofs.Lists.{written-only, behind-only, written-ordered}
 use Rattle.runs.proofs.Marks.{Mark, above, levelOf, Marked, marked-behind, marked-within}
-use Rattle.runs.proofs.Rounds.{voteMark, commitMark, run-voted, run-committed}
+use Rattle.runs.proofs.Rounds.{voteMark, commitMark, run-started, run-voted, run-committed, run-ordered}
 
 -- a record behind another in a list that is in order
 in-order : (f : Rec → Mark) (a b n : ℕ) {rs : List Rec} (x y : Rec) → Marked f a rs b → f y ≡ above n → Behind x y rs → levelOf (f x) < n
@@ -59,3 +66,15 @@ module _ (r : Run) where
   -- Last committed is not below any round delivered.
   pub deliveries-recorded : {n : ℕ} {d : Hash} → Written (commit d n) (outputs r) → n ≤ committedOf (end r)
   deliveries-recorded {n} {d} k = up-to commitMark 0 (committedOf (end r)) (commit d n) (run-committed r) (written-only isCommit refl k)
+
+  -- A START that comes later is refused with 34, and changes nothing.
+  pub start-once : (e : Event) → formOf (e .bytes) ≡ Kind.Start → stepOn (end r) e ≡ refusedIn startedAgain (end r)
+  start-once e k = again (end r) (e .room) (e .bytes) k (run-started r)
+
+  -- The high QC is below the round, so the own timeout that a TICK counts carries a QC below its round.
+  pub high-below-round : highOf (end r) < roundOf (end r)
+  high-below-round = run-ordered r .high
+
+  -- Last voted is not above the round.
+  pub voted-within-round : votedOf (end r) ≤ roundOf (end r)
+  voted-within-round = run-ordered r .voted

@@ -5,10 +5,11 @@
 --     Kept c             the contract of `step`, as it stands in the code, was kept
 --     Played w cs        each of the calls cs kept it, the first was handed the world w, and every other one what the one before had left
 --     laidAll xs os      results laid into buffers
+--     written cs         the bytes that the calls wrote, in order
 use Prim.Native.Nat.{ℕ, _≤_}
-use mathlib.Core.List.{List, [], _∷_}
+use mathlib.Core.List.{List, [], _∷_, _++_}
 use mathlib.Core.Path.{_≡_}
-use lib.ListN.{length}
+use lib.ListN.{length, take}
 use Rattle.moves.specs.declared.state.Core.{Core}
 use Rattle.synchronizer.specs.declared.table.Slot.{Slot}
 use Rattle.replica.specs.declared.started.Seat.{Seat}
@@ -55,3 +56,7 @@ unfoldable pub laidAll : List Result → List (List ℕ) → List Left
 laidAll [] os = []
 laidAll (x ∷ xs) [] = []
 laidAll (x ∷ xs) (o ∷ os) = laid x o ∷ laidAll xs os
+
+unfoldable pub written : List Call → List ℕ
+written [] = []
+written (c ∷ cs) = take (c .gives .written) (c .out′) ++ written cs
