@@ -257,7 +257,7 @@ module _ (r : Run) where
       let h = invariant-start (r .lent) (r .start) (r .begun) in
       well-as (sym (h .world .seated)) (sym (h .world .staked)) h
 
-  -- The invariant holds of the world that a run leaves, with the seat and the stakes that START left.
+  -- The invariant holds of the world that a run leaves, with the seat and the stakes that START left; a run cut short is a run, so it holds all along.
   pub invariant-run : Invariant (origin r .seat) (origin r .stakes) (end r)
   invariant-run = invariant-events (origin r) (start-well .world) (r .events)
 
