@@ -5,13 +5,13 @@
 --     Backed m q                        a QC is genesis, or a quorum of members with stake backs it
 --     backed-good, quorate-good         .. so it is accepted inside a block or a timeout; and a TC
 use Prim.Native.Nat.{ℕ, zero, suc, _+_, _-_, _*_, _/_, _%_, _^_, _≤_, _<_}
-use mathlib.Core.Bool.{Bool, true, false, cond, _||_}
-use mathlib.Core.List.{List, [], _∷_, _++_, map, append-assoc, append-nil}
+use mathlib.Core.Bool.{Bool, true, false, cond}
+use mathlib.Core.List.{List, [], _∷_, _++_, map, append-assoc}
 use mathlib.Core.Logic.{_≢_, _⊎_, inl, inr, ⊎-elim}
 use mathlib.Core.Path.{_≡_, refl, sym, ap, _∙_}
 use native.Mathlib.Nat.{zero-add, pow-suc}
 use native.Mathlib.Omega.{arith}
-use borrow.Author.Tests.{eq-eqb, ne-eqb, lt-ltb, le-ltb, ltb-true, ltb-false, eqb-true}
+use borrow.Author.Tests.{eq-eqb, ne-eqb, ltb-true, ltb-false}
 use lib.Bits.{or-lt}
 use lib.Count.{ones}
 use lib.Dec.{eqb, ltb, lit<}
@@ -21,16 +21,15 @@ use lib.Seq.{take-length}
 use Rattle.certificates.specs.declared.numbers.Signers.{Signers}
 use Rattle.certificates.specs.declared.messages.QC.{QC}
 use Rattle.certificates.specs.declared.messages.Checked.the-variants.{Accepted}
-use Rattle.certificates.specs.Config.{membersMax, quorumOf}
+use Rattle.certificates.specs.Config.{quorumOf}
 use Rattle.certificates.specs.Num.{le, numAt, hashAt, numsAt}
 use Rattle.certificates.specs.Signers.{bitOf, isIn, words, noSigners, withSigner, signersFrom, signersOf, member}
-use Rattle.certificates.specs.Messages.{Form, qcForm, tcForm, isGenesis, verdictIn, countOf, placesIn, checkPart, qcCheck, tcCheck, equalsGenesis, embeddedCheck}
-use Rattle.certificates.proofs.Check.{Known}
-use Rattle.certificates.proofs.Places.{member-take, member-index}
+use Rattle.certificates.specs.Messages.{Form, qcForm, tcForm, isGenesis, verdictIn, countOf, placesIn, checkPart, qcCheck, equalsGenesis}
+use Rattle.certificates.proofs.Places.{member-take}
 use Rattle.certificates.proofs.Accepted.{Distinct, named-accepted, qc-part, tc-part, embedded-part, certified, walked-distinct}
 use Rattle.certificates.proofs.Sets.{in-low}
 use Rattle.certificates.proofs.Theorems.{genesis-accepted}
-use Rattle.outputs.specs.Fields.{Field, number, hash, digits, hashBytes, bytesOf}
+use Rattle.outputs.specs.Fields.{number, hash, digits, hashBytes, bytesOf}
 use Rattle.outputs.specs.Records.{placesFrom, placesOf, entries}
 use Rattle.outputs.proofs.Writes.{length-digits}
 use Rattle.outputs.proofs.ReadBack.{num-back}

@@ -1,32 +1,24 @@
 -- Nothing here is vacuous: a committee of four, one of whom breaks the rules, and the runs of the other three, from bytes. They meet every premise of
 -- `one-digest`, and each delivers a block. By computation.
 --     startBytes, proposeBytes, loopbackBytes, voteBytes     records
---     runOf p                    the run of place p
---     outputs-first, outputs-second, outputs-third           all that each run writes
---     four                       the members, with their runs
---     delivers                   each run that obeys delivers block 1
---     certificate, wider, second certificates of rounds 1 and 2 that meet every premise, two of them for one round
---     committed-above            why the invariant does not say that last committed is below the round
-use Prim.Native.Nat.{ℕ, zero, suc, _+_, _*_, _%_, _≤_, _<_}
-use mathlib.Core.Bool.{Bool, true, false, cond, _||_}
-use mathlib.Core.List.{List, [], _∷_, _++_, map}
+--     runOf p                              the run of place p
+--     outputs0, outputs1, outputs2         all that each of the three writes
+--     four                                 the members, with their runs
+--     certificate1, wider1, certificate2   certificates of rounds 1 and 2 that meet every premise, two of them for one round
+--     delivers                             each member that obeys delivers block 1
+--     committed-above                      why the invariant does not say that last committed is below the round
+use Prim.Native.Nat.{ℕ, zero, suc, _+_, _%_, _<_}
+use mathlib.Core.Bool.{Bool, true, false, _||_}
+use mathlib.Core.List.{List, [], _∷_, _++_}
 use mathlib.Core.Logic.{_⊎_, inl, inr}
-use mathlib.Core.Path.{_≡_, refl, sym, ap, _∙_}
+use mathlib.Core.Path.{_≡_, refl}
 use native.Mathlib.Omega.{arith}
 use borrow.Author.Tests.{eqb-true}
 use lib.Dec.{eqb}
-use lib.ListN.{length, replicate, take, drop}
+use lib.ListN.{replicate, take, drop}
+use lib.Count.{ones}
 use Rattle.certificates.specs.declared.numbers.Hash.{Hash}
 use Rattle.certificates.specs.declared.messages.QC.{QC}
-use Rattle.certificates.specs.Messages.{qcForm}
-use Rattle.trace.specs.declared.events.Kind.{Kind}
-use Rattle.outputs.specs.Fields.{Field, number, hash}
-use Rattle.outputs.specs.Records.{Rec, vote, timeout, tc, make, makeWith, commit, sync, cleanProposer, cleanMempool, timerReset}
-use Rattle.synchronizer.specs.declared.table.Slot.{Slot}
-use Rattle.synchronizer.specs.Table.{blank}
-use Rattle.replica.specs.Step.{World, Result, newCore, committee}
-use Rattle.runs.specs.Runs.{Event, stepOn, Begun, Run, origin, end, outputs, Written, roundOf, committedOf}
-use Rattle.runs.specs.Signed.{Members, Signed, TrueResult, Certificate}
 use Rattle.certificates.specs.Config.{sum, stakeOf, quorumFrom, quorumOf, limited, setupOf}
 use Rattle.certificates.specs.Leader.{leaderOf}
 use Rattle.certificates.specs.Messages.{isGenesis, verdictIn, countOf, placesIn, isWhole, unknownTo, settledOf as settledList, checkFrom, checkPart, qcCheck, equalsGenesis, embeddedCheck, authorCheck}
@@ -37,23 +29,22 @@ use Rattle.trace.specs.Fields.{voteOf, tcRoundOf, tcHighOf, blockOf}
 use Rattle.trace.specs.Form.{blockMarks, anyAbove, isFormed, formOf}
 use Rattle.trace.specs.Layout.{qcPart, flagAt, tcAt, blockEnd, payloadOf}
 use Rattle.trace.specs.Limits.{blockCounts, blockRounds, limitOf}
-use Rattle.outputs.specs.Fields.{digits, hashBytes, bytesOf}
-use Rattle.outputs.specs.Records.{placesFrom, placesOf}
+use Rattle.outputs.specs.Fields.{number, hash, digits, hashBytes, bytesOf}
+use Rattle.outputs.specs.Records.{Rec, vote, make, commit, cleanProposer, cleanMempool, timerReset, placesFrom, placesOf}
 use Rattle.aggregator.specs.Tallies.{findRow, findFree, findHeavy, heavy, dropped, placeFor, tableFor, added, after, voteAdded, votesAfter}
 use Rattle.aggregator.specs.Tally.{isVote, kept, newVote, noHigh, withAuthor, answerOf}
+use Rattle.synchronizer.specs.Table.{blank, fits, lowest, placeOf, stored, cleared, parentOf, ancestorsOf}
 use Rattle.synchronizer.specs.Settle.{isTwoChain, cleanOf, commitIf, linkedOf, processedBy, settledOf}
-use Rattle.synchronizer.specs.Table.{fits, lowest, placeOf, stored, cleared, parentOf, ancestorsOf}
 use Rattle.synchronizer.specs.Walk.{onParent, walkFrom, walkOf, commitOf}
 use Rattle.moves.specs.Moves.{advanced, raised, takenQC, makeOf, certified}
 use Rattle.moves.specs.Tallied.{voteTallied}
 use Rattle.handlers.specs.Proposals.{leaderCheck, tcNumber, proposalCheck, advancedTC, taken, payloadNumber, byPayload, proposalWith, proposalOf}
 use Rattle.handlers.specs.Votes.{voteCheck, handledVote, extends, mayVote, ownVote, voted, voting}
+use Rattle.replica.specs.Step.{World, newCore, committee, newStakes, announced, begun, stepped}
 use Rattle.replica.specs.Blocks.{settledFor, afterSettled, processed, processedTable, goingOn, goingOnTable}
 use Rattle.replica.specs.Started.{sized, shaped, startedOf, roomy}
-use Rattle.replica.specs.Step.{newStakes, announced, begun, stepped}
-use Rattle.runs.specs.Runs.{worldAfter, outsOf}
-use Rattle.runs.specs.Signed.{qcBytes}
-use lib.Count.{ones}
+use Rattle.runs.specs.Runs.{Event, Begun, Run, origin, end, outputs, Written, roundOf, committedOf, worldAfter, outsOf}
+use Rattle.runs.specs.Signed.{Members, Signed, Certificate, qcBytes}
 
 -- every definition that a step rests on: who unfolds this one unfolds them all
 definitions : ℕ
@@ -197,12 +188,9 @@ seated4 (suc (suc zero)) h o = refl
 seated4 (suc (suc (suc zero))) h o = absurd (omega (arith, o))
 seated4 (suc (suc (suc (suc p)))) h o = absurd (omega arith)
 
-few4 : 3 * stakeIn ones4 third ≤ sum ones4
-unfolding definitions
-few4 = omega arith
-
 pub four : Members
-four = record { stakes = ones4; breakers = third; run = runOf; few = few4; same = same4; seated = seated4 }
+unfolding definitions
+four = record { stakes = ones4; breakers = third; run = runOf; few = omega arith; same = same4; seated = seated4 }
 
 -- ---- each of the three signs block 1 and block 2, and delivers block 1
 

@@ -3,18 +3,16 @@
 --     embedded-may            a QC that was accepted inside a block or a timeout may be taken
 --     good-handled-...        VOTE, TIMEOUT, TC, TICK
 --     good-proposal, good-processed, good-going     PROPOSE up to its payload, LOOPBACK, PROPOSE
-use Prim.Native.Nat.{ℕ, zero, suc, _+_, _^_, _≤_, _<_}
+use Prim.Native.Nat.{ℕ, _+_, _≤_, _<_}
 use mathlib.Core.Bool.{Bool, true, false, cond}
-use mathlib.Core.List.{List, [], _∷_, _++_, map}
-use mathlib.Core.Logic.{_≢_}
+use mathlib.Core.List.{List, [], _∷_, map}
 use mathlib.Core.Path.{_≡_, refl, sym, ap, _∙_}
 use native.Mathlib.Omega.{arith}
-use borrow.Author.Tests.{ltb-true, ltb-false, eqb-true, eq-eqb, ne-eqb}
+use borrow.Author.Tests.{eqb-true}
 use lib.Dec.{eqb, ltb, leb, lit<}
-use lib.ListN.{length, getD}
+use lib.ListN.{length}
 use Rattle.certificates.specs.declared.numbers.Hash.{Hash}
 use Rattle.certificates.specs.declared.numbers.Signers.{Signers}
-use Rattle.certificates.specs.declared.messages.QC.{QC}
 use Rattle.certificates.specs.declared.messages.Checked.{Checked}
 use Rattle.certificates.specs.declared.messages.Checked.the-variants.{Accepted}
 use Rattle.certificates.specs.Config.{membersMax, stakeOf, quorumOf}
@@ -27,29 +25,26 @@ use Rattle.certificates.specs.Error.{stale, qcRequiresQuorum, tcRequiresQuorum,
 use Rattle.certificates.proofs.Check.{Known}
 use Rattle.certificates.proofs.ErrorLaws.{number-accepted, number-valid}
 use Rattle.certificates.proofs.MessageLaws.{author}
-use Rattle.certificates.proofs.Accepted.{Certified, certified, certified-known, walked-distinct, embedded-part, tc-part}
+use Rattle.certificates.proofs.Accepted.{certified, certified-known, walked-distinct, embedded-part, tc-part}
 use Rattle.trace.specs.declared.events.Vote.{Vote}
-use Rattle.trace.specs.declared.events.Timeout.{Timeout}
 use Rattle.trace.specs.declared.events.Block.{Block}
-use Rattle.trace.specs.Layout.{roundMax, qcRound, blockQC, timeoutQC, tcBody, qcPart, tcPart, highsOf}
+use Rattle.trace.specs.Layout.{roundMax, blockQC, timeoutQC, tcBody, qcPart, tcPart, highsOf}
 use Rattle.trace.specs.Fields.{timeoutOf, blockOf}
 use Rattle.trace.proofs.PartLaws.{qc-part-round}
 use Rattle.trace.proofs.FieldLaws.{timeout-qc-round, block-qc-round}
-use Rattle.outputs.specs.Records.{Rec, vote, timeout, commit, sync, cleanProposer, cleanMempool, timerReset}
+use Rattle.outputs.specs.Records.{sync, cleanProposer, cleanMempool}
 use Rattle.synchronizer.specs.declared.table.Slot.{Slot}
 use Rattle.synchronizer.specs.declared.settle.Work.{Work}
 use Rattle.synchronizer.specs.declared.ancestors.Ancestors.{Ancestors}
 use Rattle.synchronizer.specs.Table.{placeOf, stored, cleared, ancestorsOf}
-use Rattle.synchronizer.specs.Walk.{Commit}
 use Rattle.synchronizer.specs.Settle.{Settlement, answered, isTwoChain, cleanOf, commitIf, commitRec, linkedOf, waitOf, processedBy, settledOf}
-use Rattle.moves.specs.declared.state.Core.{Core}
-use Rattle.moves.specs.State.{State, withCore, withVoted, withCommitted}
-use Rattle.moves.specs.Outcome.{Step, Outcome, quiet, wrote, andThen, done, after, refused, checked}
-use Rattle.moves.specs.Moves.{advanced, takenQC, makeWithOf}
+use Rattle.moves.specs.State.{State, withCore, withVoted}
+use Rattle.moves.specs.Outcome.{Outcome, quiet, done, after, refused, checked}
+use Rattle.moves.specs.Moves.{advanced, makeWithOf}
 use Rattle.moves.specs.Tallied.{qcOf, voteTallied, timeoutTallied}
 use Rattle.handlers.specs.Sound.{first, signersOf}
 use Rattle.handlers.specs.Votes.{voteCheck, handledVote, mayVote, ownVote, voted, voting}
-use Rattle.handlers.specs.Timeouts.{timeoutCheck, timeoutTaken, timeoutWith, handledTimeout, tcTaken, staleIf, tcWith, handledTC, votedUp, tickOuts, ticked, ownTimeout, handledTick}
+use Rattle.handlers.specs.Timeouts.{timeoutCheck, timeoutTaken, timeoutWith, handledTimeout, tcTaken, staleIf, tcWith, handledTC, votedUp, ticked, ownTimeout, handledTick}
 use Rattle.handlers.specs.Proposals.{Proposal, qcFound, proposalCheck, advancedTC, taken, byPayload, proposalWith, proposalOf}
 use Rattle.handlers.proofs.HandlerLaws.{first-both}
 use Rattle.handlers.proofs.ProposalTheorems.{checks-passed}

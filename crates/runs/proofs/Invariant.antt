@@ -5,11 +5,12 @@
 --     invariant-start             .. after a START that was taken
 --     invariant-step              .. after every step from such a world
 --     invariant-run               .. after every event of a run
+--     high-signers                the high QC's signers are members
 --     run-certificates            all certificates that a run writes pass the check
 --     made-qc-accepted, made-tc-accepted     those that its tallies make, at the moment they are made
 use Prim.Native.Nat.{ℕ, _≤_, _<_}
 use mathlib.Core.Bool.{Bool, true, false, cond}
-use mathlib.Core.List.{List, [], _∷_, _++_}
+use mathlib.Core.List.{List, [], _∷_}
 use mathlib.Core.Path.{_≡_, refl, sym, ap, _∙_}
 use native.Mathlib.Omega.{arith}
 use lib.Dec.{eqb}
@@ -22,19 +23,21 @@ use Rattle.certificates.specs.declared.config.Setup.the-variants.{Bad, Total}
 use Rattle.certificates.specs.declared.messages.Checked.the-variants.{Accepted}
 use Rattle.certificates.specs.Config.{membersMax, stakeOf, sum, quorumOf, setupOf}
 use Rattle.certificates.specs.Messages.{qcCheck}
+use Rattle.certificates.specs.Signers.{isIn, words}
 use Rattle.certificates.specs.Start.{setupAt}
-use Rattle.certificates.specs.Error.{badRecord, badSetup, noRoom, notStarted, startedAgain}
+use Rattle.certificates.specs.Error.{badRecord, noRoom, startedAgain}
 use Rattle.certificates.proofs.Check.{Known}
-use Rattle.certificates.proofs.ConfigLaws.{within}
+use Rattle.certificates.proofs.ConfigLaws.{stake-member, within}
+use Rattle.certificates.proofs.SignersLaws.{signer-none}
 use Rattle.certificates.proofs.StartLaws as start
 use Rattle.trace.specs.declared.events.Kind.{Kind}
 use Rattle.trace.specs.Form.{formOf}
 use Rattle.trace.specs.Limits.{limitOf}
-use Rattle.trace.specs.Fields.{voteOf, timeoutOf, blockOf}
+use Rattle.trace.specs.Fields.{voteOf, blockOf}
 use Rattle.trace.specs.Layout.{tcBody, tcRound, payloadOf}
 use Rattle.outputs.specs.Records.{Rec}
 use Rattle.aggregator.specs.declared.tallies.Added.the-variants.{Full}
-use Rattle.aggregator.specs.Tally.{fields, voteWidth, timeoutWidth}
+use Rattle.aggregator.specs.Tally.{voteWidth, timeoutWidth}
 use Rattle.aggregator.specs.Tallies.{voteTallies, timeoutTallies, votesLength, timeoutsLength, heavy, voteAdded, timeoutAdded}
 use Rattle.aggregator.proofs.TableLaws.{each-zeros}
 use Rattle.aggregator.proofs.Laws.{light-heavy}
@@ -44,13 +47,13 @@ use Rattle.moves.specs.Outcome.{Outcome}
 use Rattle.moves.specs.Tallied.{qcOf}
 use Rattle.handlers.specs.Proposals.{proposalOf}
 use Rattle.replica.specs.declared.started.Seat.{Seat}
-use Rattle.replica.specs.Started.{membersOf, sized, shaped, lightIn, startedOf, roomy}
+use Rattle.replica.specs.Started.{membersOf, shaped, lightIn, startedOf, roomy}
 use Rattle.replica.specs.Step.{World, Result, refusedIn, inWorld, newSeat, newState, newStakes, newCore, announced, begunBy, begun, committee, started, sizedIn, handled, onStart, onOther, onKind, stepped}
 use Rattle.replica.proofs.StartedLaws.{sized-all, shaped-all}
 use Rattle.runs.specs.Runs.{Event, stepOn, worldAfter, outsOf, Begun, Run, origin, end, outputs, Written}
 use Rattle.runs.specs.Signed.{Sends, GoodTC, qcBytes}
 use Rattle.runs.proofs.Tallied.{Tallied, tallied-light}
-use Rattle.runs.proofs.Certificates.{first, backed-good, quorate-qc, quorate-tc}
+use Rattle.runs.proofs.Certificates.{Backed, first, quorate, quorate-qc, quorate-tc}
 use Rattle.runs.proofs.Kept.{Every, none, more, Kept, Good, every-append, every-written, good-make, vote-quorate, timeout-quorate}
 use Rattle.runs.proofs.Handled.{good-handled-vote, good-handled-timeout, good-handled-tc, good-handled-tick, good-processed, good-proposal, good-going}
 
@@ -254,9 +257,17 @@ module _ (r : Run) where
       let h = invariant-start (r .lent) (r .start) (r .begun) in
       well-as (sym (h .world .seated)) (sym (h .world .staked)) h
 
-  -- The invariant holds of the world that a run leaves, with the seat and the stakes that START left.
+  -- The invariant holds of the world that a run leaves, with the seat and the stakes that START left; a run cut short is a run, so it holds all along.
   pub invariant-run : Invariant (origin r .seat) (origin r .stakes) (end r)
   invariant-run = invariant-events (origin r) (start-well .world) (r .events)
+
+  -- The signers of the high QC that a run leaves are members of its committee.
+  pub high-signers : (p : ℕ) → isIn (words (end r .state .core .«high_qc» .signers)) p ≡ 1 → p < length (committee (origin r))
+  high-signers p h = cases (invariant-run .state .high)
+    where
+      cases : Backed (committee (origin r)) (end r .state .core .«high_qc») → p < length (committee (origin r))
+      cases (first e) = absurd (omega (arith, signer-none p, rw e at h))
+      cases (quorate q) = stake-member (committee (origin r)) p (q .members p h .stake)
 
   -- Every QC and every TC that a run writes, laid out as a certificate with the result yes, passes the check of every replica of its committee.
   pub run-certificates : {a : Rec} → Written a (outputs r) → Sends (committee (origin r)) a

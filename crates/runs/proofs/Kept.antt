@@ -4,41 +4,40 @@
 --     Good m a            a step that leaves such a state, and whose records hold only certificates that pass the check
 --     good-...            each of the moves
 --     vote-quorate, timeout-quorate     what a tally gives out is a quorum of members with stake
-use Prim.Native.Nat.{ℕ, suc, _+_, _≤_, _<_}
+use Prim.Native.Nat.{ℕ, _+_, _≤_, _<_}
 use mathlib.Core.Bool.{Bool, true, false, cond}
 use mathlib.Core.List.{List, [], _∷_, _++_}
-use mathlib.Core.Logic.{_≢_, _⊎_, inl, inr}
-use mathlib.Core.Path.{_≡_, refl, sym, ap, _∙_}
+use mathlib.Core.Logic.{_⊎_, inl, inr}
+use mathlib.Core.Path.{_≡_, refl, ap, _∙_}
 use native.Mathlib.Omega.{arith}
-use borrow.Author.Tests.{ltb-true, ltb-false, eqb-true, eqb-false}
-use lib.Dec.{eqb, ltb}
+use borrow.Author.Tests.{ltb-true, ltb-false}
+use lib.Dec.{ltb}
 use lib.ListN.{length}
 use Rattle.certificates.specs.declared.numbers.Hash.{Hash}
 use Rattle.certificates.specs.declared.numbers.Signers.{Signers}
 use Rattle.certificates.specs.declared.messages.QC.{QC}
-use Rattle.certificates.specs.Config.{membersMax, stakeOf, quorumOf}
+use Rattle.certificates.specs.Config.{stakeOf, quorumOf}
 use Rattle.certificates.proofs.Check.{Known}
-use Rattle.outputs.specs.Records.{Rec, make, makeWith, timerReset}
+use Rattle.outputs.specs.Records.{Rec, make, makeWith}
 use Rattle.aggregator.specs.declared.tallies.Added.{Added}
 use Rattle.aggregator.specs.declared.tallies.Added.the-variants.{NoRoom, Used, More, Full}
 use Rattle.aggregator.specs.Rows.{row}
-use Rattle.aggregator.specs.Tally.{voteWidth, timeoutWidth, usedOf, namesOf, isVote, ofRound, newVote, newTimeout, noHigh, withHigh, hasName, withName, signers}
-use Rattle.aggregator.specs.Tallies.{voteTallies, timeoutTallies, votesLength, timeoutsLength, dropped, voteAdded, votesAfter, timeoutAdded, timeoutsAfter, highsAt}
+use Rattle.aggregator.specs.Tally.{voteWidth, timeoutWidth, usedOf, namesOf, newVote, newTimeout, withName, signers}
+use Rattle.aggregator.specs.Tallies.{voteTallies, timeoutTallies, votesLength, timeoutsLength, voteAdded, votesAfter, timeoutAdded, timeoutsAfter, highsAt}
 use Rattle.aggregator.proofs.TallyLaws.{Kind, vote-kind, timeout-kind}
 use Rattle.aggregator.proofs.TableLaws.{Each, each-dropped}
 use Rattle.aggregator.proofs.Additions.{Filled, vote-addition, timeout-addition, addition-each}
 use Rattle.aggregator.proofs.Laws.{dropped-length, votes-after-length, timeouts-after-length, vote-full, timeout-full}
-use Rattle.moves.specs.declared.state.Core.{Core}
-use Rattle.moves.specs.State.{State, withVotes, withTimeouts, withCore, withHigh as highAs}
-use Rattle.moves.specs.Outcome.{Step, Outcome, quiet, wrote, andThen, done, after, refused, checked}
-use Rattle.moves.specs.Moves.{inNewRound, advanced, raised, takenQC, leads, makeOf, makeWithOf, certified, tcOuts, timedOut}
+use Rattle.moves.specs.State.{State, withVotes, withTimeouts, withCore}
+use Rattle.moves.specs.Outcome.{Step, quiet, andThen}
+use Rattle.moves.specs.Moves.{advanced, raised, takenQC, leads, makeOf, makeWithOf, certified, tcOuts, timedOut}
 use Rattle.moves.specs.Tallied.{qcOf, afterVote, voteTallied, afterTimeout, timeoutTallied}
 use Rattle.moves.proofs.MoveLaws.{advanced-below, advanced-at, raised-above, raised-not, taken-is, certified-is, timed-out-is}
 use Rattle.moves.proofs.TallyLaws.{vote-tallied-is, timeout-tallied-is}
 use Rattle.runs.specs.Runs.{Written}
 use Rattle.runs.specs.Signed.{Sends}
 use Rattle.runs.proofs.Tallied.{Quorate, Tallied, tallied-new, tallied-more, counts-full}
-use Rattle.runs.proofs.Certificates.{Backed, first, quorate, backed-good, quorate-tc}
+use Rattle.runs.proofs.Certificates.{Backed, quorate, backed-good, quorate-tc}
 
 -- P holds of every record of a list
 pub data Every (P : Rec → Type 0) : List Rec → Type 0 where

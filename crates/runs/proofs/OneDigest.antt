@@ -1,19 +1,15 @@
 -- Demand 3, its last sentence: one digest a round. Assumes nothing; the premises are those of `Members` and `Certificate` in specs/Signed.
 --     one-digest         two accepted vote certificates of one round name one block digest
 --     certificate-voter  an accepted vote certificate has the vote of a member that obeys
-use Prim.Native.Nat.{ℕ, _*_, _≤_, _<_}
-use mathlib.Core.Bool.{true}
-use mathlib.Core.List.{List}
+use Prim.Native.Nat.{ℕ, _<_}
 use mathlib.Core.Path.{_≡_, sym, _∙_}
 use lib.ListN.{length}
 use Rattle.certificates.specs.declared.numbers.Hash.{Hash}
 use Rattle.certificates.specs.declared.messages.Checked.the-variants.{Accepted}
 use Rattle.certificates.specs.Config.{quorumOf}
-use Rattle.certificates.specs.Messages.{qcForm, placesIn, checkPart}
+use Rattle.certificates.specs.Messages.{qcForm, checkPart}
 use Rattle.certificates.proofs.Accepted.{embedded-part}
-use Rattle.certificates.proofs.Theorems.{Shared, obeying-signer}
-use Rattle.outputs.specs.Records.{vote}
-use Rattle.runs.specs.Runs.{outputs, Written}
+use Rattle.certificates.proofs.Theorems.{obeying-signer}
 use Rattle.runs.specs.Signed.{Members, Obeys, Signed, Certificate}
 use Rattle.runs.proofs.Theorems.{one-vote}
 

@@ -4,29 +4,28 @@
 --     Tallied m t              .. of the tally t
 --     tallied-new              a new tally
 --     tallied-more             one more author
---     tallied-full             what a tally gives out
---     tallied-light            no tally is heavier than the total
-use Prim.Native.Nat.{ℕ, suc, _+_, _*_, _/_, _%_, _^_, _≤_, _<_}
+--     counts-full              what a tally gives out is a quorum of members with stake
+--     counts-once              it gives out one certificate and no other
+--     counts-light, tallied-light     no tally is heavier than the total
+use Prim.Native.Nat.{ℕ, _+_, _/_, _%_, _^_, _≤_, _<_}
 use mathlib.Core.Bool.{Bool, true, false, cond}
 use mathlib.Core.List.{List}
 use mathlib.Core.Logic.{_≢_, by-cases}
-use mathlib.Core.Path.{_≡_, refl, sym, ap, _∙_}
+use mathlib.Core.Path.{_≡_, refl, sym, _∙_}
 use native.Mathlib.Decide.{ℕ-discrete}
 use native.Mathlib.Omega.{arith}
-use borrow.Author.Tests.{ltb-true, ltb-false, eqb-false, lt-ltb, le-ltb}
-use lib.Bits.{bitOr, or-lt}
-use lib.Dec.{eqb, ltb, lit<}
+use borrow.Author.Tests.{ltb-true, ltb-false, eqb-false}
+use lib.Bits.{or-lt}
+use lib.Dec.{ltb, lit<}
 use lib.ListN.{length}
 use lib.Pow.{pow-lt}
 use Rattle.certificates.specs.declared.numbers.Signers.{Signers}
-use Rattle.certificates.specs.Config.{membersMax, sum, stakeOf, quorumFrom, quorumOf}
+use Rattle.certificates.specs.Config.{sum, stakeOf, quorumFrom, quorumOf}
 use Rattle.certificates.specs.Signers as signed
-use Rattle.certificates.specs.Signers.{isIn, words, withSigner}
+use Rattle.certificates.specs.Signers.{isIn, words}
 use Rattle.certificates.proofs.ConfigLaws.{quorum-pos}
 use Rattle.certificates.proofs.Check.{Known}
-use Rattle.certificates.proofs.Sets.{in-small}
-use Rattle.certificates.proofs.SignersLaws.{signer-none, signer-bit, signer-same, signer-other, weight-none, weight-with, weight-le}
-use Rattle.aggregator.specs.Rows.{row}
+use Rattle.certificates.proofs.SignersLaws.{signer-none, signer-bit, signer-other, weight-none, weight-with, weight-le}
 use Rattle.aggregator.specs.Tally.{fields, weightOf, namesOf, hasName, withName, signers, withAuthor}
 use Rattle.aggregator.specs.Tallies.{Light}
 use Rattle.aggregator.proofs.TallyLaws.{Kind, author-names, author-weight}
@@ -97,6 +96,11 @@ module _ (m : List ℕ) {names weight : ℕ} (k : Counts m names weight) where
     -- what it gives out: its names, and the author's, are a quorum
     pub counts-full : quorumOf m ≤ weight + stakeOf m p → Quorate m (signers (withName names p))
     counts-full h = record { members = more-members; quorum = omega (arith, h, more-held, counts-within); word = more-word }
+
+    -- once: a tally that gave out its certificate gives out no other
+    pub counts-once : quorumOf m ≤ held m names → weight + stakeOf m p < quorumOf m
+    unfolding quorumOf quorumFrom
+    counts-once h = omega (arith, k .spent h, more-held, weight-le m (signers (withName names p)))
 
     pub counts-more : Counts m (withName names p) (cond (ltb (weight + stakeOf m p) (quorumOf m)) (weight + stakeOf m p) 0)
     counts-more = cases (ltb (weight + stakeOf m p) (quorumOf m)) refl

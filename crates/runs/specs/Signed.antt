@@ -11,7 +11,7 @@
 --     Certificate M h n           a vote certificate other than genesis, for the hash h and the round n, accepted and with a true result
 use Prim.Native.Nat.{ℕ, _*_, _≤_, _<_}
 use mathlib.Core.Bool.{true, false, cond}
-use mathlib.Core.List.{List, [], _∷_, map}
+use mathlib.Core.List.{List, _∷_, map}
 use mathlib.Core.Path.{_≡_}
 use lib.Count.{ones}
 use lib.ListN.{length}
@@ -23,7 +23,7 @@ use Rattle.certificates.specs.Config.{sum, quorumOf}
 use Rattle.certificates.specs.Num.{numAt, hashAt}
 use Rattle.certificates.specs.Signers.{isIn, stakeIn, noSigners, member}
 use Rattle.certificates.specs.Messages.{qcForm, placesIn, tcCheck, equalsGenesis, embeddedCheck}
-use Rattle.outputs.specs.Fields.{Field, number, hash, bytesOf}
+use Rattle.outputs.specs.Fields.{number, hash, bytesOf}
 use Rattle.outputs.specs.Records.{Rec, vote, timeout, tc, make, makeWith, commit, sync, cleanProposer, cleanMempool, timerReset, answer, placesOf, entries}
 use Rattle.replica.specs.Step.{committee}
 use Rattle.runs.specs.Runs.{Run, origin, outputs, Written}
