@@ -39,7 +39,8 @@ use Rattle.replica.specs.Step.{World}
 use Rattle.runs.specs.Runs.{Event, stepOn, Written, Behind, isSigned, isCommit, signedIn, deliveredIn, roundOf, votedOf, committedOf, highOf}
 use Rattle.runs.proofs.Lists.{written-only, behind-only, written-none, written-one}
 use Rattle.runs.proofs.Marks.{Marked, marked-le, marked-above, marked-behind, marked-within, marked-last}
-use Rattle.runs.proofs.Lawful.{Ballot, Signs, nothing, ballot, expiry, Deliveries, none, some, Delivers, Stores, commit-of}
+use Rattle.runs.proofs.Lawful.{Ballot, Signs, nothing, ballot, expiry, Deliveries, none, some, Delivers, Stores}
+use Rattle.runs.proofs.Blocks.{commit-of}
 use Rattle.runs.proofs.Steps.{Started, tookBy, stepIn, step-lawful, started-again}
 use Rattle.runs.proofs.Rounds.{voteMark, commitMark, step-voted, step-committed}
 

@@ -2,6 +2,8 @@ pub mod Lists
 pub mod Marks
 pub mod Plain
 pub mod Lawful
+pub mod Voting
+pub mod Blocks
 pub mod Steps
 pub mod Rounds
 pub mod Theorems

@@ -21,7 +21,8 @@ use Rattle.replica.specs.Step.{World, Result}
 use Rattle.runs.specs.Runs.{Event, stepOn, worldAfter, outsOf, Run, origin, end, outputs, only, isSigned, isCommit, signedIn, deliveredIn, roundOf, votedOf, committedOf, highOf}
 use Rattle.runs.proofs.Lists.{only-append}
 use Rattle.runs.proofs.Marks.{Mark, skip, above, reach, Marked, marked-append}
-use Rattle.runs.proofs.Lawful.{votedIn, committedIn, Signs, nothing, ballot, expiry, Delivers, deliveries-rising}
+use Rattle.runs.proofs.Lawful.{votedIn, committedIn, Signs, nothing, ballot, expiry, Delivers}
+use Rattle.runs.proofs.Blocks.{deliveries-rising}
 use Rattle.runs.proofs.Steps.{Started, step-lawful, started-again, Starts, starts, start-started, start-silent}
 
 -- a VOTE stands above last voted and becomes it; a TIMEOUT raises it

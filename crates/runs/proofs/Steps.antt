@@ -45,7 +45,9 @@ use Rattle.replica.specs.Step.{World, Result, refusedIn, newCore, newSeat, newS
 use Rattle.replica.proofs.StartedLaws.{Ready, started-ready, sized-all, shaped-all}
 use Rattle.runs.specs.Runs.{Event, stepOn, Begun}
 use Rattle.runs.proofs.Plain.{Silent, plain-quiet, plain-vote, plain-timeout, plain-tc, silent-announced}
-use Rattle.runs.proofs.Lawful.{Stays, Lawful, lawful-plain, timeout-keeps, tc-keeps, lawful-tick, treats-processed, treats-proposed, lawful-treats}
+use Rattle.runs.proofs.Lawful.{Stays, Lawful, lawful-plain}
+use Rattle.runs.proofs.Voting.{timeout-keeps, tc-keeps, lawful-tick}
+use Rattle.runs.proofs.Blocks.{treats-processed, treats-proposed, lawful-treats}
 
 abbrev pub stepIn : Result → Step
 stepIn x = record { state = x .world .state; outs = x .outs }

@@ -12,8 +12,9 @@
 --     outputs r          all that the run writes, in order
 --     Written a rs       the record a stands in the list rs
 --     Behind a b rs      in the list rs the record b stands behind the record a
---     signedIn rs        the VOTEs and TIMEOUTs of a list: what the host signs
---     deliveredIn rs     its COMMITs
+--     only p rs          the records of a list that pass the test p, in order
+--     signedIn rs        the VOTEs and TIMEOUTs of a list, in order (isSigned)
+--     deliveredIn rs     its COMMITs (isCommit)
 --     roundOf, votedOf, committedOf, highOf w    a world's round, last voted and last committed round, and the round of its high QC
 use Prim.Native.Nat.{ℕ}
 use mathlib.Core.Bool.{Bool, true, false, cond}
