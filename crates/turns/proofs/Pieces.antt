@@ -1,15 +1,15 @@
 -- A trace that is read in pieces.
 --     turned-event, turned-waits, turned-over     a turn by what stands at the front
 --     trace-in-pieces      THE LAW: the records of a trace p ++ q are those of the turns at the front of p, and then those of what is left of p and of q, from the world that the turns leave
---     fed-ledger           however the input comes in pieces, what is written is `ledgerOf` of the whole
+--     fed-ledger, fed-all  however the input comes in pieces, what is written is `ledgerOf` of the whole
 -- What they ask of a replica, `Answers`, is that the output has room for each event's records and its ANSWER, and goes on to have it.
 -- Assumes nothing.
 use Prim.Native.Nat.{ℕ, zero, suc, _+_, _≤_, _<_}
-use mathlib.Core.Bool.{Bool, true, false, cond}
-use mathlib.Core.List.{List, [], _∷_, _++_, append-assoc, append-nil}
+use mathlib.Core.Bool.{Bool, true, false, cond, true≢false}
+use mathlib.Core.List.{List, [], _∷_, _++_, flatten, append-assoc, append-nil}
 use mathlib.Core.Path.{_≡_, refl, sym, ap, _∙_}
 use native.Mathlib.Omega.{arith}
-use borrow.Author.Tests.{ltb-true, le-ltb, le-leb}
+use borrow.Author.Tests.{ltb-true, le-leb, ne-eqb}
 use lib.Dec.{ltb, leb, eqb}
 use lib.ListN.{length, drop, length-append}
 use Rattle.certificates.specs.Num.{numAt}
@@ -18,7 +18,7 @@ use Rattle.trace.specs.Record.{recordMax, splitOf, framed, recordOf, restOf}
 use Rattle.trace.specs.declared.record.Front.{Front}
 use Rattle.trace.specs.declared.record.Front.the-variants.{End, Cut, Small, Record}
 use Rattle.trace.proofs.Parts.{by-order, num-past, num-append}
-use Rattle.trace.proofs.Fronts.{too-long}
+use Rattle.trace.proofs.Fronts.{at-end, too-long}
 use Rattle.trace.proofs.FrontLaws.{Whole, front-bounds, front-append, record-append, rest-append}
 use Rattle.outputs.specs.Records.{Rec, answer, answerSize, encAll}
 use Rattle.outputs.proofs.Wrote.{all-none}
@@ -76,6 +76,32 @@ too-long-append s t e =
     let n : length (s ++ t) ≡ length s + length t = length-append s t in
     too-long (s ++ t) {n = numAt 2 s 0} (sym (num-append 2 s t 0 (omega arith))) (omega arith) h)
     (λ l. let z : numAt 2 s 0 ≡ 0 = num-past 2 s 0 (omega arith) in absurd (omega arith))
+
+-- a front that is the end has no bytes
+abbrev tag : Front → ℕ
+tag End = 0
+tag Cut = 1
+tag (Small end) = 1
+tag (Record kind end) = 1
+
+not-end : (b c d e : Bool) (k n : ℕ) → tag (cond b Cut (cond c Cut (cond d Cut (cond e (Small n) (Record k n))))) ≡ 1
+not-end true c d e k n = refl
+not-end false true d e k n = refl
+not-end false false true e k n = refl
+not-end false false false true k n = refl
+not-end false false false false k n = refl
+
+end-by : (s : List ℕ) (z : Bool) → ltb (length s) 1 ≡ z → End ≡ splitOf s → length s < 1
+unfolding splitOf framed
+end-by s true e p = ltb-true _ _ e
+end-by s false e p =
+    let n : ℕ = numAt 2 s 0 in
+    let z : _≡_ {A = ℕ} 0 1 =
+        ap tag (rw e at p) ∙ not-end (ltb (length s) 2) (ltb recordMax n) (ltb (length s) (n + 2)) (ltb n 2) (numAt 2 s 2) (n + 2) in
+    absurd (omega arith)
+
+end-empty : (s : List ℕ) → End ≡ splitOf s → length s < 1
+end-empty s p = end-by s (ltb (length s) 1) refl p
 
 -- ---- the output has room for what each event writes and its ANSWER, now and later
 
@@ -154,3 +180,84 @@ module _ {room : ℕ} {Good : World → Type 0} (a : Answers room Good) where
       ≡ playedOf w room p .outs ++ cond (playedOf w room p .over) [] (ledgerOf (playedOf w room p .world) room (playedOf w room p .rest ++ q))
   unfolding playedOf
   trace-in-pieces w p q g = played-in (length p) q w p g (omega arith)
+
+  -- ---- where the turns end: more is waited for, or the run is over
+
+  record Stops (y : Played) : Type 0 where
+    good : Good (y .world)
+    waits : y .over ≡ false → turned (y .world) room (y .rest) ≡ waiting (y .world)
+
+  stops-event : (n : ℕ) (w : World) (s : List ℕ) (f : Front) → f ≡ splitOf s → Whole f
+      → Stops (playedIn n (eventAt w room s .world) room (restOf f s)) → Stops (playedIn (suc n) w room s)
+  unfolding playedIn
+  stops-event n w s f p h ih = rw (turned-event w room s f p h, rest-is f s h) (record { good = ih .good; waits = ih .waits })
+
+  stops-waiting : (n : ℕ) (w : World) (s : List ℕ) → Good w → turned w room s ≡ waiting w → Stops (playedIn (suc n) w room s)
+  unfolding playedIn
+  stops-waiting n w s g e = rw e (record { good = g; waits = λ _. e })
+
+  stops-over : (n : ℕ) (w : World) (s : List ℕ) → Good w → Cut ≡ splitOf s → isTooLong s ≡ true → Stops (playedIn (suc n) w room s)
+  unfolding playedIn
+  stops-over n w s g p e = rw (turned-over w room s p e) (record { good = g; waits = λ z. absurd (true≢false z) })
+
+  stops-cut : (n : ℕ) (w : World) (s : List ℕ) → Good w → Cut ≡ splitOf s → (long : Bool) → isTooLong s ≡ long → Stops (playedIn (suc n) w room s)
+  stops-cut n w s g p true e = stops-over n w s g p e
+  stops-cut n w s g p false e = stops-waiting n w s g (turned-waits w room s p e)
+
+  stops-by : (n : ℕ) (w : World) (s : List ℕ) (f : Front) → f ≡ splitOf s → Good w → length s ≤ suc n
+      → ((w : World) (r : List ℕ) → Good w → length r ≤ n → Stops (playedIn n w room r)) → Stops (playedIn (suc n) w room s)
+  stops-by n w s End p g h ih = stops-waiting n w s g (turned-end w room s p)
+  stops-by n w s Cut p g h ih = stops-cut n w s g p (isTooLong s) refl
+  stops-by n w s (Small end) p g h ih =
+      stops-event n w s (Small end) p tt (ih (eventAt w room s .world) (drop end s) (event-stays w s g) (rest-within s n (Small end) p tt h))
+  stops-by n w s (Record kind end) p g h ih =
+      stops-event n w s (Record kind end) p tt (ih (eventAt w room s .world) (drop end s) (event-stays w s g) (rest-within s n (Record kind end) p tt h))
+
+  played-stops : (n : ℕ) (w : World) (s : List ℕ) → Good w → length s ≤ n → Stops (playedIn n w room s)
+  unfolding playedIn
+  played-stops zero w s g h = record { good = g; waits = λ _. turned-end w room s (at-end s (omega arith)) }
+  played-stops (suc n) w s g h = stops-by n w s (splitOf s) refl g h (played-stops n)
+
+  stopped : (w : World) (s : List ℕ) → Good w → Stops (playedOf w room s)
+  unfolding playedOf
+  stopped w s g = played-stops (length s) w s g (omega arith)
+
+  -- ---- the end of the input
+
+  -- what is waited for and does not come is a record cut by the end
+  cut-by-end : (w : World) (x : ℕ) (s : List ℕ) (f : Front) → f ≡ splitOf (x ∷ s) → turned w room (x ∷ s) ≡ waiting w → ledgerOf w room (x ∷ s) ≡ answer badRecord ∷ []
+  cut-by-end w x s End p e = let h = end-empty (x ∷ s) p in absurd (omega arith)
+  cut-by-end w x s Cut p e = ledger-cut room w (x ∷ s) p
+  cut-by-end w x s (Small end) p e =
+      let z : answered ≡ more = ap (λ (t : Turning). t .met) (sym (turned-event w room (x ∷ s) (Small end) p tt) ∙ e) in absurd (omega arith)
+  cut-by-end w x s (Record kind end) p e =
+      let z : answered ≡ more = ap (λ (t : Turning). t .met) (sym (turned-event w room (x ∷ s) (Record kind end) p tt) ∙ e) in absurd (omega arith)
+
+  ends : (w : World) (s : List ℕ) → turned w room s ≡ waiting w → cond (eqb (length s) 0) [] (answer badRecord ∷ []) ≡ ledgerOf w room s
+  ends w [] e = sym (ledger-end room w [] (at-end [] (omega arith)))
+  ends w (x ∷ s) e =
+      let h : length (x ∷ s) ≡ 0 → ⊥ = λ z. absurd (omega arith) in
+      rw (ne-eqb (length (x ∷ s)) 0 h) (sym (cut-by-end w x s (splitOf (x ∷ s)) refl e))
+
+  -- ---- any pieces
+
+  abbrev pub Fed : List (List ℕ) → Type 0
+  Fed ps = (w : World) (s : List ℕ) → Good w → turned w room s ≡ waiting w → fedOf w room s ps ≡ ledgerOf w room (s ++ flatten ps)
+
+  go-on : (ps : List (List ℕ)) (y : Played) → Stops y → (over : Bool) → y .over ≡ over → Fed ps
+      → cond over [] (fedOf (y .world) room (y .rest) ps) ≡ cond over [] (ledgerOf (y .world) room (y .rest ++ flatten ps))
+  go-on ps y k true e ih = refl
+  go-on ps y k false e ih = ih (y .world) (y .rest) (k .good) (k .waits e)
+
+  pub fed-ledger : (ps : List (List ℕ)) → Fed ps
+  unfolding fedOf flatten
+  fed-ledger [] w s g e = rw append-nil (ends w s e)
+  fed-ledger (p ∷ ps) w s g e =
+      let y : Played = playedOf w room (s ++ p) in
+      ap (λ (rs : List Rec). y .outs ++ rs) (go-on ps y (stopped w (s ++ p) g) (y .over) refl (fed-ledger ps))
+      ∙ sym (trace-in-pieces w (s ++ p) (flatten ps) g)
+      ∙ ap (ledgerOf w room) (append-assoc s p (flatten ps))
+
+  -- from nothing read
+  pub fed-all : (ps : List (List ℕ)) (w : World) → Good w → fedOf w room [] ps ≡ ledgerOf w room (flatten ps)
+  fed-all ps w g = fed-ledger ps w [] g (turned-end w room [] (at-end [] (omega arith)))
