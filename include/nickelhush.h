@@ -63,8 +63,7 @@ _Static_assert(offsetof(struct nickelhush_slot, parent_round) == 80, "the parent
 /* A replica's memory, but for the table and the output, whose sizes the host chooses: 11,088 bytes.
  *
  *     seat      member count, own place
- *     core      round, last voted, last committed; the high QC's hash (4), round, signers (bit p for place p).
- *               What a restart has to bring back
+ *     core      round, last voted, last committed; the high QC's hash (4), round, signers (bit p for place p)
  *     stakes    a stake for each place
  *     votes     32 tallies of 8: used, round, weight, names, hash (4)
  *     timeouts  16 tallies of 68: used, round, weight, names, a high round for each place

@@ -1,16 +1,16 @@
-/* A host in one page: four controllers of one mast in one process, with messages passed through memory. Place 1, which
- * leads round 5, goes dark before that round and comes back in round 9; at the end all four ledgers are equal.
+/* A small host: four controllers of one mast in one process, with messages passed through memory. Place 1 is lost in round
+ * 4, before it can lead round 5, and is back in round 8. At the end it prints the four ledgers, which are equal.
  *
  * The host carries out what each replica writes (docs/RUN.md): it signs and sends votes, timeouts and certificates, makes
- * blocks, keeps the blocks that have to wait, and books what is delivered. Nobody lies here, so every verdict is 1, and a
- * "signature" is not even made; a digest is worked out from the block, as it has to be. */
+ * blocks, keeps those that have to wait for a parent, and books what is delivered. Nobody lies here, so every verdict is
+ * 1, and no signature is made; a digest is worked out from the block, as it has to be. */
 #include "nickelhush.h"
 
 #include <stdio.h>
 #include <stdlib.h>
 #include <string.h>
 
-enum { MEMBERS = 4, SLOTS = 64, LOST = 1, DARK_FROM = 5, DARK_TO = 9, LAST = 13, QUEUE = 4096, KEPT = 64 };
+enum { MEMBERS = 4, SLOTS = 64, LOST = 1, LOST_FROM = 4, LOST_TO = 8, LAST = 13, QUEUE = 4096, KEPT = 64 };
 
 struct message {
     unsigned to;
@@ -25,7 +25,7 @@ struct controller {
     struct nickelhush_slot table[SLOTS];
     uint8_t out[NICKELHUSH_ROOM(SLOTS)];
     struct message held[KEPT], waiting[KEPT];
-    size_t helds, waitings, books;
+    size_t helds, waitings, syncs, books;
     uint64_t ledger[KEPT];
     uint8_t digests[KEPT][32];
 };
@@ -57,16 +57,18 @@ static uint64_t round_of(unsigned who)
     return nickelhush_round(mast[who].memory.core, NICKELHUSH_CORE_LENGTH);
 }
 
-/* Dark: what it sends and what is sent to it is lost. Time is the furthest round of the others. */
-static int dark(unsigned who)
+/* Whether what a place sends, and what is sent to it, is lost. Time is the furthest round of the others. */
+static int lost(unsigned who)
 {
-    uint64_t now = round_of((LOST + 1) % MEMBERS);
-    return who == LOST && now >= DARK_FROM && now < DARK_TO;
+    uint64_t now = 0;
+    for (unsigned p = 0; p < MEMBERS; p++)
+        if (p != LOST && round_of(p) > now) now = round_of(p);
+    return who == LOST && now >= LOST_FROM && now < LOST_TO;
 }
 
 static void send(unsigned from, unsigned to, const struct message *m)
 {
-    if (dark(from) || dark(to)) return;
+    if (lost(from) || lost(to)) return;
     if (next == QUEUE) exit(2);
     queue[next] = *m;
     queue[next++].to = to;
@@ -140,17 +142,24 @@ static void make(unsigned who, const uint8_t *body)
     loopback(who, &m);
 }
 
-/* SYNC: the block of this event waits. `author` is asked for the parent, which comes as PROPOSE. */
+/* SYNC: the block of this event waits. Whoever holds the parent is asked for it, the author first; it comes as PROPOSE. */
 static void sync(unsigned who, const uint8_t *body, const uint8_t *record, size_t length)
 {
-    struct controller *c = &mast[who], *author = &mast[get(body + 64, 2)];
+    struct controller *c = &mast[who];
     struct message *wait = &c->waiting[c->waitings++];
     if (c->waitings == KEPT) exit(2);
+    c->syncs++;
     wait->length = 0;
     copy(wait, record, length);
     if (record[0] == NICKELHUSH_LOOPBACK) put(wait, 1, 1);
-    for (size_t i = 0; i < author->helds; i++)
-        if (memcmp(author->held[i].bytes + 2, body, 32) == 0) send((unsigned)(author - mast), who, &author->held[i]);
+    for (unsigned i = 0; i < MEMBERS; i++) {
+        unsigned asked = (unsigned)(get(body + 64, 2) + i) % MEMBERS;
+        for (size_t k = 0; k < mast[asked].helds; k++)
+            if (memcmp(mast[asked].held[k].bytes + 2, body, 32) == 0) {
+                send(asked, who, &mast[asked].held[k]);
+                return;
+            }
+    }
 }
 
 /* What one output record asks for. */
@@ -161,15 +170,23 @@ static void carry_out(unsigned who, const uint8_t *out, const uint8_t *record, s
     struct message m = {0};
     switch (get(out, 2)) {
     case NICKELHUSH_OUT_VOTE:
-        put(&m, NICKELHUSH_VOTE, 2), copy(&m, body + 2, 40), put(&m, who, 2), put(&m, 1, 1);
+        put(&m, NICKELHUSH_VOTE, 2);
+        copy(&m, body + 2, 40);
+        put(&m, who, 2);
+        put(&m, 1, 1);
         if (get(body, 2) != who) send(who, (unsigned)get(body, 2), &m);
         break;
     case NICKELHUSH_OUT_TIMEOUT:
-        put(&m, NICKELHUSH_TIMEOUT, 2), copy(&m, body, 8), put(&m, who, 2), put(&m, 1, 1), put_qc(&m, body + 8);
+        put(&m, NICKELHUSH_TIMEOUT, 2);
+        copy(&m, body, 8);
+        put(&m, who, 2);
+        put(&m, 1, 1);
+        put_qc(&m, body + 8);
         send_all(who, &m);
         break;
     case NICKELHUSH_OUT_TC:
-        put(&m, NICKELHUSH_TC, 2), put_tc(&m, body);
+        put(&m, NICKELHUSH_TC, 2);
+        put_tc(&m, body);
         send_all(who, &m);
         break;
     case NICKELHUSH_OUT_MAKE: make(who, body); break;
@@ -211,8 +228,14 @@ int main(void)
 {
     for (unsigned who = 0; who < MEMBERS; who++) {
         struct message m = {0};
-        put(&m, NICKELHUSH_START, 2), put(&m, MEMBERS, 2), put(&m, who, 2);
-        for (unsigned p = 0; p < MEMBERS; p++) m.length += 31, put(&m, p, 1), put(&m, 1, 4);
+        put(&m, NICKELHUSH_START, 2);
+        put(&m, MEMBERS, 2);
+        put(&m, who, 2);
+        for (unsigned p = 0; p < MEMBERS; p++) {
+            m.length += 31; /* keys 0, 1, 2, 3 */
+            put(&m, p, 1);
+            put(&m, 1, 4);
+        }
         event(who, m.bytes, m.length);
     }
     for (int idle = 0; idle < 64;) {
@@ -225,13 +248,13 @@ int main(void)
         first = next = 0;
         /* nothing is under way: the timers run out */
         for (unsigned who = 0; who < MEMBERS; who++)
-            if (!dark(who) && round_of(who) <= LAST) event(who, (const uint8_t[]){NICKELHUSH_TICK, 0}, 2);
+            if (!lost(who) && round_of(who) <= LAST) event(who, (const uint8_t[]){NICKELHUSH_TICK, 0}, 2);
         idle++;
     }
     int equal = 1;
     for (unsigned who = 0; who < MEMBERS; who++) {
         struct controller *c = &mast[who];
-        printf("place %u, round %llu, ledger:", who, (unsigned long long)round_of(who));
+        printf("place %u: round %llu, asked for %zu blocks, ledger:", who, (unsigned long long)round_of(who), c->syncs);
         for (size_t i = 0; i < c->books; i++) printf(" %llu", (unsigned long long)c->ledger[i]);
         printf("\n");
         equal &= c->books > 0 && c->books == mast[0].books && memcmp(c->digests, mast[0].digests, sizeof c->digests) == 0;
