@@ -4,5 +4,5 @@
 // `record` has the record. `stages` lends its parts to the functions of crate `replica`, which work
 // on them in place, and puts them back. `step` is the public entry: one event, from any record.
 pub mod record;
-pub mod stages;
+mod stages;
 pub mod step;

@@ -20,7 +20,7 @@ ghost use Rattle.replica.specs.Stages.{workAt};
 ghost use Rattle.owned.specs.Stages.{Opens, Closable, Closes};
 
 // What the first part leaves.
-pub struct Opened {
+pub(crate) struct Opened {
     pub begun: Begun,
     pub stakes: [u32; MEMBERS_MAX],
     pub votes: [u64; VOTE_TALLIES * VOTE_WIDTH],
@@ -28,7 +28,7 @@ pub struct Opened {
 }
 
 // The first part: what needs no block.
-pub fn open(out: &mut [u8], input: &[u8], r: Replica, slots: usize) -> Opened
+pub(crate) fn open(out: &mut [u8], input: &[u8], r: Replica, slots: usize) -> Opened
     ensures { λ o. ⌜ Opens r slots (now (input .entry)) (now (out .entry)) o (now (out .exit)) ⌝ }
 {
     let mut stakes = r.stakes;
@@ -53,7 +53,7 @@ pub fn open(out: &mut [u8], input: &[u8], r: Replica, slots: usize) -> Opened
 }
 
 // What the table is asked for.
-pub fn ask(input: &[u8], o: Opened) -> Work
+pub(crate) fn ask(input: &[u8], o: Opened) -> Work
     ensures { λ w. ⌜ w ≡ workAt (o .begun) (blockOf (now (input .entry))) ⌝ }
 {
     let begun = o.begun;
@@ -61,7 +61,7 @@ pub fn ask(input: &[u8], o: Opened) -> Work
 }
 
 // The last part, once the table gave s: the vote.
-pub fn close(out: &mut [u8], input: &[u8], o: Opened, s: Settled) -> Handed
+pub(crate) fn close(out: &mut [u8], input: &[u8], o: Opened, s: Settled) -> Handed
     requires { ⌜ Closable o s (now input) (length (now out)) ⌝ }
     ensures { λ h. ⌜ Closes o s (now (input .entry)) (now (out .entry)) h (now (out .exit)) ⌝ }
 {
