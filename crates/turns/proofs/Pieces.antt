@@ -97,7 +97,7 @@ end-by s true e p = ltb-true _ _ e
 end-by s false e p =
     let n : ℕ = numAt 2 s 0 in
     let z : _≡_ {A = ℕ} 0 1 =
-        ap tag (rw e at p) ∙ not-end (ltb (length s) 2) (ltb recordMax n) (ltb (length s) (n + 2)) (ltb n 2) (numAt 2 s 2) (n + 2) in
+    ap tag (rw e at p) ∙ not-end (ltb (length s) 2) (ltb recordMax n) (ltb (length s) (n + 2)) (ltb n 2) (numAt 2 s 2) (n + 2) in
     absurd (omega arith)
 
 end-empty : (s : List ℕ) → End ≡ splitOf s → length s < 1
@@ -145,7 +145,7 @@ module _ {room : ℕ} {Good : World → Type 0} (a : Answers room Good) where
       let y : Played = playedIn n (x .world) room (restOf f s) in
       let tail : List Rec = cond (y .over) [] (ledgerOf (y .world) room (y .rest ++ q)) in
       let whole : ledgerOf w room (s ++ q) ≡ x .outs ++ answer (x .answer) ∷ ledgerOf (x .world) room (restOf f s ++ q) =
-          ledger-event room w (s ++ q) f (front-append s q f h p) h ∙ rw (event-same w s q f p h, rest-append s q f h p) in
+      ledger-event room w (s ++ q) f (front-append s q f h p) h ∙ rw (event-same w s q f p h, rest-append s q f h p) in
       rw (turned-event w room s f p h, rest-is f s h, event-answers w s g) (whole ∙ rw (ih, append-assoc, append-assoc))
 
   waits-on : (n : ℕ) (w : World) (s q : List ℕ) → turned w room s ≡ waiting w → InPieces w s q (playedIn (suc n) w room s)
