@@ -10,7 +10,7 @@ use mathlib.Core.List.{List, [], _∷_, _++_, flatten, append-assoc, append-nil}
 use mathlib.Core.Path.{_≡_, refl, sym, ap, _∙_}
 use native.Mathlib.Omega.{arith}
 use borrow.Author.Tests.{ltb-true, le-leb, ne-eqb}
-use lib.Dec.{ltb, leb, eqb}
+use lib.Dec.{ltb, eqb}
 use lib.ListN.{length, drop, length-append}
 use Rattle.certificates.specs.Num.{numAt}
 use Rattle.certificates.specs.Error.{badRecord}
@@ -19,15 +19,15 @@ use Rattle.trace.specs.declared.record.Front.{Front}
 use Rattle.trace.specs.declared.record.Front.the-variants.{End, Cut, Small, Record}
 use Rattle.trace.proofs.Parts.{by-order, num-past, num-append}
 use Rattle.trace.proofs.Fronts.{at-end, too-long}
-use Rattle.trace.proofs.FrontLaws.{Whole, front-bounds, front-append, record-append, rest-append}
+use Rattle.trace.proofs.FrontLaws.{Whole, front-append, record-append, rest-append}
 use Rattle.outputs.specs.Records.{Rec, answer, answerSize, encAll}
 use Rattle.outputs.proofs.Wrote.{all-none}
 use Rattle.replica.specs.Step.{World, Result, stepped}
 use Rattle.turns.specs.Turn.{answered, more, tooLong, isTooLong, answersIn, Turning, waiting, turned}
 use Rattle.turns.specs.Ledger.{eventAt, ledgerOf}
-use Rattle.turns.specs.Pieces.{Played, onward, playedIn, playedOf, fedOf}
+use Rattle.turns.specs.Pieces.{Played, playedIn, playedOf, fedOf}
 use Rattle.turns.proofs.Fronts.{takenBy}
-use Rattle.turns.proofs.LedgerLaws.{rest-within, ledger-is, ledger-end, ledger-cut, ledger-event}
+use Rattle.turns.proofs.LedgerLaws.{rest-within, ledger-end, ledger-cut, ledger-event}
 
 -- ---- a turn, by what stands at the front
 
@@ -128,7 +128,7 @@ module _ {room : ℕ} {Good : World → Type 0} (a : Answers room Good) where
   unfolding eventAt
   event-same w s q f p h = rw (← front-append s q f h p, ← p, record-append s q f h p)
 
-  event-answers : (w : World) (s : List ℕ) → Good w → answersIn room (eventAt w room s .outs) (eventAt w room s .answer) ≡ answer (eventAt w room s .answer) ∷ []
+  pub event-answers : (w : World) (s : List ℕ) → Good w → answersIn room (eventAt w room s .outs) (eventAt w room s .answer) ≡ answer (eventAt w room s .answer) ∷ []
   unfolding eventAt
   event-answers w s g = answers-all w (recordOf (splitOf s) s) g
 
