@@ -3,6 +3,7 @@ pub mod StageLaws
 pub mod StepLaws
 pub mod OrderLaws
 pub mod Theorems
+pub mod Sizes
 pub mod StageCode
 pub mod Row
 pub mod Uses

@@ -11,15 +11,14 @@ use native.Mathlib.Omega.{arith}
 use borrow.Author.Tests.{ne-eqb, le-leb, lt-leb, leb-true}
 use lib.Dec.{eqb, leb}
 use lib.ListN.{length}
-use Rattle.outputs.specs.Records.{Rec, answer, answerSize, enc, encAll}
-use Rattle.outputs.specs.Put.{Put, Wrote}
+use Rattle.outputs.specs.Records.{answer, answerSize, enc, encAll}
+use Rattle.outputs.specs.Put.{Put}
 use Rattle.outputs.proofs.Wrote.{all-none, all-one, wrote-none, wrote-one}
 use Rattle.outputs.proofs.Sizes.{length-enc}
 use Rattle.replica.specs.declared.stages.Stepped.{Stepped}
 use Rattle.turns.specs.Turn.{more}
 use Rattle.turns.specs.Code.{closing, Closes}
 use Rattle.turns.specs.declared.turn.Run.{Run}
-use Rattle.turns.specs.declared.turn.Turned.{Turned}
 use Rattle.turns.specs.declared.turn.Ahead.{Ahead}
 
 module _ (run : Run) (ahead : Ahead) (x : Stepped) (before : List ℕ) where

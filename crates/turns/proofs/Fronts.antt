@@ -8,10 +8,10 @@
 -- Assumes nothing.
 use Prim.Native.Nat.{ℕ, _+_, _-_, _≤_, _<_}
 use mathlib.Core.List.{List, []}
-use mathlib.Core.Path.{_≡_, refl, sym, _∙_, subst}
+use mathlib.Core.Path.{_≡_, refl, sym, _∙_}
 use native.Mathlib.Omega.{arith}
 use borrow.Author.Tests.{lt-ltb, le-ltb}
-use lib.ListN.{length, drop, take, length-take, length-drop}
+use lib.ListN.{length, drop, length-take}
 use lib.Seq.{take-take, drop-drop}
 use Rattle.certificates.specs.Num.{numAt}
 use Rattle.trace.specs.Part.{between}
@@ -20,7 +20,7 @@ use Rattle.trace.specs.declared.record.Front.{Front}
 use Rattle.trace.specs.declared.record.Front.the-variants.{End, Cut, Small, Record}
 use Rattle.trace.proofs.Parts.{drop-take}
 use Rattle.trace.proofs.FrontLaws.{Bounds, front-bounds}
-use Rattle.turns.specs.Turn.{answered, more, tooLong}
+use Rattle.turns.specs.Turn.{more, tooLong}
 use Rattle.turns.specs.Code.{cutMet, noneAt, oneAt, aheadBy, aheadOf}
 
 -- ---- ways out

@@ -2,7 +2,7 @@
 --     ledger-is                                   THE LAW: the records of a trace by its front, the rest as a trace of its own
 --     ledger-end, ledger-cut, ledger-event        the same by cases
 -- Assumes nothing.
-use Prim.Native.Nat.{ℕ, zero, suc, _≤_, _<_}
+use Prim.Native.Nat.{ℕ, zero, suc, _≤_}
 use mathlib.Core.List.{List, [], _∷_, _++_}
 use mathlib.Core.Path.{_≡_, refl, sym, ap, _∙_}
 use native.Mathlib.Omega.{arith}

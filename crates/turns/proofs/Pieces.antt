@@ -10,7 +10,7 @@ use mathlib.Core.List.{List, [], _∷_, _++_, flatten, append-assoc, append-nil}
 use mathlib.Core.Path.{_≡_, refl, sym, ap, _∙_}
 use native.Mathlib.Omega.{arith}
 use borrow.Author.Tests.{ltb-true, le-leb, ne-eqb}
-use lib.Dec.{ltb, leb, eqb}
+use lib.Dec.{ltb, eqb}
 use lib.ListN.{length, drop, length-append}
 use Rattle.certificates.specs.Num.{numAt}
 use Rattle.certificates.specs.Error.{badRecord}
@@ -19,15 +19,15 @@ use Rattle.trace.specs.declared.record.Front.{Front}
 use Rattle.trace.specs.declared.record.Front.the-variants.{End, Cut, Small, Record}
 use Rattle.trace.proofs.Parts.{by-order, num-past, num-append}
 use Rattle.trace.proofs.Fronts.{at-end, too-long}
-use Rattle.trace.proofs.FrontLaws.{Whole, front-bounds, front-append, record-append, rest-append}
+use Rattle.trace.proofs.FrontLaws.{Whole, front-append, record-append, rest-append}
 use Rattle.outputs.specs.Records.{Rec, answer, answerSize, encAll}
 use Rattle.outputs.proofs.Wrote.{all-none}
 use Rattle.replica.specs.Step.{World, Result, stepped}
 use Rattle.turns.specs.Turn.{answered, more, tooLong, isTooLong, answersIn, Turning, waiting, turned}
 use Rattle.turns.specs.Ledger.{eventAt, ledgerOf}
-use Rattle.turns.specs.Pieces.{Played, onward, playedIn, playedOf, fedOf}
+use Rattle.turns.specs.Pieces.{Played, playedIn, playedOf, fedOf}
 use Rattle.turns.proofs.Fronts.{takenBy}
-use Rattle.turns.proofs.LedgerLaws.{rest-within, ledger-is, ledger-end, ledger-cut, ledger-event}
+use Rattle.turns.proofs.LedgerLaws.{rest-within, ledger-end, ledger-cut, ledger-event}
 
 -- ---- a turn, by what stands at the front
 
@@ -97,7 +97,7 @@ end-by s true e p = ltb-true _ _ e
 end-by s false e p =
     let n : ℕ = numAt 2 s 0 in
     let z : _≡_ {A = ℕ} 0 1 =
-        ap tag (rw e at p) ∙ not-end (ltb (length s) 2) (ltb recordMax n) (ltb (length s) (n + 2)) (ltb n 2) (numAt 2 s 2) (n + 2) in
+    ap tag (rw e at p) ∙ not-end (ltb (length s) 2) (ltb recordMax n) (ltb (length s) (n + 2)) (ltb n 2) (numAt 2 s 2) (n + 2) in
     absurd (omega arith)
 
 end-empty : (s : List ℕ) → End ≡ splitOf s → length s < 1
@@ -128,7 +128,7 @@ module _ {room : ℕ} {Good : World → Type 0} (a : Answers room Good) where
   unfolding eventAt
   event-same w s q f p h = rw (← front-append s q f h p, ← p, record-append s q f h p)
 
-  event-answers : (w : World) (s : List ℕ) → Good w → answersIn room (eventAt w room s .outs) (eventAt w room s .answer) ≡ answer (eventAt w room s .answer) ∷ []
+  pub event-answers : (w : World) (s : List ℕ) → Good w → answersIn room (eventAt w room s .outs) (eventAt w room s .answer) ≡ answer (eventAt w room s .answer) ∷ []
   unfolding eventAt
   event-answers w s g = answers-all w (recordOf (splitOf s) s) g
 
@@ -145,7 +145,7 @@ module _ {room : ℕ} {Good : World → Type 0} (a : Answers room Good) where
       let y : Played = playedIn n (x .world) room (restOf f s) in
       let tail : List Rec = cond (y .over) [] (ledgerOf (y .world) room (y .rest ++ q)) in
       let whole : ledgerOf w room (s ++ q) ≡ x .outs ++ answer (x .answer) ∷ ledgerOf (x .world) room (restOf f s ++ q) =
-          ledger-event room w (s ++ q) f (front-append s q f h p) h ∙ rw (event-same w s q f p h, rest-append s q f h p) in
+      ledger-event room w (s ++ q) f (front-append s q f h p) h ∙ rw (event-same w s q f p h, rest-append s q f h p) in
       rw (turned-event w room s f p h, rest-is f s h, event-answers w s g) (whole ∙ rw (ih, append-assoc, append-assoc))
 
   waits-on : (n : ℕ) (w : World) (s q : List ℕ) → turned w room s ≡ waiting w → InPieces w s q (playedIn (suc n) w room s)

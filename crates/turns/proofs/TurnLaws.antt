@@ -6,13 +6,13 @@
 -- Assumes nothing.
 use Prim.Native.Nat.{ℕ, _+_, _-_, _≤_}
 use mathlib.Core.Bool.{Bool, true, false, cond}
-use mathlib.Core.List.{List, [], _∷_, _++_}
+use mathlib.Core.List.{List, [], _++_}
 use mathlib.Core.Path.{_≡_, refl, sym, ap, _∙_}
 use native.Mathlib.Nat.{zero-add}
 use native.Mathlib.Omega.{arith}
 use lib.Dec.{eqb}
 use lib.ListN.{length, drop, length-append, length-drop}
-use lib.Seq.{sets, sets-eq}
+use lib.Seq.{sets-eq}
 use Rattle.certificates.specs.Error.{badRecord}
 use Rattle.trace.specs.Part.{between}
 use Rattle.trace.specs.Form.{formOf}
@@ -23,9 +23,7 @@ use Rattle.trace.specs.declared.events.Kind.{Kind}
 use Rattle.outputs.specs.Records.{Rec, answerSize, encAll}
 use Rattle.outputs.specs.Put.{Wrote}
 use Rattle.outputs.proofs.Wrote.{wrote-then, wrote-start, wrote-count}
-use Rattle.moves.specs.declared.state.Core.{Core}
 use Rattle.synchronizer.specs.declared.table.Slot.{Slot}
-use Rattle.replica.specs.declared.started.Seat.{Seat}
 use Rattle.replica.specs.declared.stages.Stepped.{Stepped}
 use Rattle.replica.specs.declared.step.Order.{Order}
 use Rattle.replica.specs.Started.{roomFor}
