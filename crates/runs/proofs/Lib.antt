@@ -9,3 +9,4 @@ pub mod Rounds
 pub mod Theorems
 pub mod Calls
 pub mod Laws
+pub mod Refusals
