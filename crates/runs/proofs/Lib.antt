@@ -8,5 +8,12 @@ pub mod Steps
 pub mod Rounds
 pub mod Theorems
 pub mod Calls
+pub mod Tallied
+pub mod Certificates
+pub mod Kept
+pub mod Handled
+pub mod Invariant
+pub mod OneDigest
+pub mod Example
 pub mod Laws
 pub mod Refusals
