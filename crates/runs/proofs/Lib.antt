@@ -16,3 +16,4 @@ pub mod Invariant
 pub mod OneDigest
 pub mod Example
 pub mod Laws
+pub mod Refusals
