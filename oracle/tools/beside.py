@@ -1,7 +1,8 @@
 """docs/BESIDE.md: scenarios run by this port and by the Rust, side by side.
 
-The scripts are those of tests/scenarios whose names begin with `shunt`, `difference_` or `paper_`. A script whose opening
-comment says `--raw` is given to the Rust with that option. One more, oracle/absent_ancestor.txt, is for the Rust alone.
+The scripts are those of tests/scenarios whose names begin with `shunt`, `difference_` or `paper_`. A script whose
+opening comment says `--raw` is given to the Rust with that option. One more, oracle/absent_ancestor.txt, is for the
+Rust alone.
 """
 
 import difflib
@@ -133,8 +134,9 @@ def section(scenario, port):
         cells = [beside(mine, run[at]) for run in runs]
         out.append("| " + " | ".join([scenario.words_of(piece), cells[0][0]] + [c[1] for c in cells]) + " |")
     there = runs[0]
-    if delivered(here) or delivered(there):
-        out += ["", "Delivered here: {}. By the Rust: {}.".format(*(", ".join(delivered(x)) or "nothing" for x in (here, there)))]
+    ours, theirs = delivered(here), delivered(there)
+    if ours or theirs:
+        out += ["", f"Delivered here: {', '.join(ours) or 'nothing'}. By the Rust: {', '.join(theirs) or 'nothing'}."]
     if scenario.name.startswith("difference_") and any(parted(here[-1], there[-1])):
         out += ["", SMALL if smallest(scenario, port) else NOT_SMALL]
     return out + [""]
@@ -154,11 +156,11 @@ NOT_SMALL = "**An event can be left out.**"
 INTRODUCTION = """\
 # The Rust beside this port
 
-Written by `oracle/run differences`; `--check` says whether the runs still give this page. The left column is what the scripts
-in tests/scenarios expect, which the gate compares with the proved code byte for byte. The right column is the unchanged Rust at
-082d36d637 on the same trace (`oracle --rust`): its outputs in 01's records, and in brackets what it does that 01 has no record for.
-What differs is bold. "No event can be left out": without any one of them the last event shows no such difference (tried).
-What each difference means and why it is there: docs/DIFFERENCES.md."""
+Written by `oracle/run differences`; `--check` says whether the runs still give this page. The left column is what the
+scripts in tests/scenarios expect, which the gate compares with the proved code byte for byte. The right column is the
+unchanged Rust at 082d36d637 on the same trace (`oracle --rust`): its outputs in 01's records, and in brackets what it
+does that 01 has no record for. What differs is bold. "No event can be left out": without any one of them the last event
+shows no such difference (tried). What each difference means and why it is there: docs/DIFFERENCES.md."""
 
 PARTS = (
     ("shunt", "The shunt's story"),

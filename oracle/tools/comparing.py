@@ -16,7 +16,8 @@ from traces import *
 ORACLE = os.environ.get("ORACLE", os.path.join(ROOT, "oracle", "build", "oracle"))
 BATCH = 250  # traces for one run of the oracle
 BEFORE = (16, 17, 19, 20, 32, 33, 34)  # answers of the oracle's own front: the Rust has nothing like them
-SECONDS = 600
+SECONDS = 600  # for a run of the oracle
+PORT_SECONDS = 3  # for a trace; a port that takes longer does not end
 
 
 class Failed(Exception):
@@ -63,10 +64,13 @@ def port_of(command):
     words = shlex.split(command)
 
     def run(trace):
-        done = called(words, trace)
-        if done.returncode:
-            raise Failed(f"{command}: exit code {done.returncode}")
-        return done.stdout
+        """What it wrote, also where it stopped by a fault or did not end: a difference, then."""
+        try:
+            return subprocess.run(words, input=trace, stdout=subprocess.PIPE, timeout=PORT_SECONDS).stdout
+        except subprocess.TimeoutExpired as e:
+            return e.stdout or b""
+        except OSError as e:
+            raise Failed(f"{command}: {e}") from None
 
     return run
 
@@ -211,6 +215,74 @@ def opened(record):
     return (kind, values) if cursor.at == len(record) - 4 else None
 
 
+def closed(kind, values):
+    return packed(kind, EVENTS[kind][1].pack(values))
+
+
+def renamed(values, names, rounds):
+    """Values with digests and rounds put in the place of others."""
+    out = {}
+    for key, value in values.items():
+        if isinstance(value, dict):
+            value = renamed(value, names, rounds)
+        elif key in ("hash", "digest"):
+            value = names(value)
+        elif key == "round":
+            value = rounds(value)
+        elif key == "highs":
+            value = [(p, rounds(r)) for p, r in value]
+        out[key] = value
+    return out
+
+
+def rounds_of(values):
+    found = [values["round"]] if "round" in values else []
+    for key in ("qc", "tc"):
+        found += rounds_of(values[key]) if isinstance(values.get(key), dict) else []
+    return found + [r for _, r in values.get("highs", [])]
+
+
+def retold(records, names=lambda x: x, rounds=lambda x: x):
+    """All records with other digests and rounds; an author that led the round leads the new one."""
+    out, members = [], 1
+    for record in records:
+        found = opened(record)
+        if found:
+            kind, old = found
+            members = max(1, len(old["stakes"])) if "stakes" in old else members
+            values = renamed(old, names, rounds)
+            if "digest" in old and old["author"] == old["round"] % members:
+                values["author"] = values["round"] % members
+            record = closed(kind, values)
+        out.append(record)
+    return out
+
+
+def plainer(records, bad):
+    """Records with the same fault whose values are as plain as they come one by one."""
+    for at, record in enumerate(records):
+        found = opened(record)
+        while found:
+            kind, values = found
+            tries = ((plain, records[:at] + [closed(kind, plain)] + records[at + 1 :]) for plain in simpler(values))
+            found = next(((kind, plain, new) for plain, new in tries if bad(new)), None)
+            if found:
+                records, found = found[2], found[:2]
+    return records
+
+
+def lower(records, bad):
+    """Records with the same fault without gaps between their rounds."""
+    opens = [found for found in map(opened, records) if found]
+    for r in sorted({r for _, values in opens for r in rounds_of(values) if r > 1}):
+        while r > 1:
+            new = retold(records, rounds=lambda x: x - 1 if x >= r else x)
+            if not bad(new):
+                break
+            records, r = new, r - 1
+    return records
+
+
 def shrunk(trace, differs):
     """A small trace with a difference, from one that has one."""
 
@@ -220,19 +292,10 @@ def shrunk(trace, differs):
     records, before = fewer(records_of(trace), bad), None
     while records != before:
         before = records
-        for at, record in enumerate(records):
-            found, going = opened(record), True
-            while found and going:
-                going = False
-                kind, values = found
-                for plain in simpler(values):
-                    new = packed(kind, EVENTS[kind][1].pack(plain))
-                    if bad(records[:at] + [new] + records[at + 1 :]):
-                        records = records[:at] + [new] + records[at + 1 :]
-                        found, going = (kind, plain), True
-                        break
-        records = fewer(records, bad)
-    return b"".join(records)
+        records = fewer(lower(plainer(records, bad), bad), bad)
+    names = {ZERO: ZERO}
+    new = retold(records, names=lambda x: names.setdefault(x, digest(len(names))))
+    return b"".join(new if bad(new) else records)
 
 
 def told(trace, outputs, mine):

@@ -37,7 +37,7 @@ def long(first, count, least, most):
 
 
 def seen(first, count):
-    """For each small fault of faults.py the first of so many random traces that sees it, made small."""
+    """For each small fault of faults.txt the first of so many random traces that sees it, made small."""
     random = [making.random_trace(s) for s in range(first, first + count)]
     answers, traces = rust(random), []
     for name, model in faults.models():
@@ -45,7 +45,7 @@ def seen(first, count):
         if trace is None:
             raise ValueError(f"no random trace sees: {name}")
         traces.append(shrunk(trace, lambda t, model=model: faults.sees(model, t, *rust([t])[0])))
-    return f"for each fault of oracle/tools/faults.py the first trace of the seeds from {first} on that sees it, made small", traces
+    return f"for each fault of oracle/tools/faults.txt the first seed from {first} on that sees it, made small", traces
 
 
 FAMILIES = {
@@ -107,18 +107,19 @@ def paper(files, rows, coverage):
 INTRODUCTION = """\
 `crates/scenarios/data/oracle_*.traces` and `.answers`: the gate replays the traces through the proved code and compares
 every byte, so it needs no Rust. The answers are those of the unchanged consensus sources of asonnino/hotstuff at
-082d36d637 (`oracle --as-01`: the intended differences taken out, oracle/README.md). This page and the packs are written by
-`oracle/run list`; `oracle/run list --check` makes them again and compares them byte for byte.
+082d36d637 (`oracle --as-01`: the intended differences taken out, oracle/README.md). This page and the packs are written
+by `oracle/run list`; `oracle/run list --check` makes them again and compares them byte for byte.
 
-A pack holds for each trace a length of 4 bytes, little-endian, and its bytes; the outputs stand in the same order in the
-pack of answers. Each trace begins anew. All sequences of a length hold the shorter ones as their beginnings. Equal traces stand
-once.
+A pack holds for each trace a length of 4 bytes, little-endian, and its bytes; the outputs stand in the same order in
+the pack of answers. Each trace begins anew. All sequences of a length hold the shorter ones as their beginnings. Equal
+traces stand once.
 
 A trace is cut where the Rust cannot be compared further:
-- before the first event that 01 answers by 28 or 29, since the Rust has no such limits (18 and 30 never come from a trace);
+- before the first event that 01 answers by 28 or 29, since the Rust has no such limits (18 and 30 never come from a
+  trace);
 - after the first event that 01 answers by 31: there the Rust walks on, and the states part;
-- before an event in which the Rust panics and 01 has no number for it; after it, where 01 has one (a dead synchronizer
-  task: 2)."""
+- before an event in which the Rust panics and 01 has no number for it; after it, where 01 has one (a dead
+  synchronizer's task: 2)."""
 
 
 def write(check):
