@@ -62,7 +62,7 @@ answers! {
     BadRecord = 16,
     BadSetup = 17,
     /// The table does not have 1 to 1,024 slots, or the output is too small for it.
-    Room = 18,
+    NoRoom = 18,
     /// A round above 2^62.
     RoundTooHigh = 19,
     /// A signer list above 64.

@@ -429,3 +429,64 @@ fn single_steps() {
         assert!((0x0101..=0x0109).all(|k| outs.get(&k).is_some_and(|n| *n >= 100)), "an output is too rare");
     }
 }
+
+/// Every slice at length 0, 1, one short, exact and one more, with every kind of record, on a replica that is started and on
+/// one that is not; tables and rooms at their limits too.
+#[test]
+fn every_length() {
+    let mut hands = Hands::new(2);
+    let mut start = vec![1, 0, 4, 0, 2, 0];
+    for member in 0..4 {
+        start.extend([[0; 31].as_slice(), &[member], &[1, 0, 0, 0]].concat());
+    }
+    let around = |n: usize| [0, 1, n - 1, n, n + 1];
+    let mut steps = 0;
+    for slots in [0, 1, 2, 1023, 1024, 1025] {
+        let mut fresh = Memory {
+            seat: vec![0; 2],
+            core: vec![0; 9],
+            stakes: vec![0; 64],
+            votes: vec![0; 256],
+            timeouts: vec![0; 1088],
+            table: vec![Block::default(); slots],
+            out: vec![],
+        };
+        for started in [false, true] {
+            if started {
+                fresh.table.resize(slots.clamp(1, 1024), Block::default());
+                fresh.out = vec![0; 44 * 1024 + 2048];
+                assert_eq!(fresh.step(&start).0, 0);
+                fresh.table.resize(slots, Block::default());
+            }
+            hands.base = 1;
+            let mut records: Vec<Vec<u8>> = vec![start.clone(), vec![7, 0], vec![], vec![7], vec![9, 0]];
+            while records.len() < 16 {
+                records.push(hands.record(&fresh));
+            }
+            for room in around(44 * slots + 2048) {
+                for part in 0..5 {
+                    for n in around(LENGTHS[part]) {
+                        let mut before = fresh.clone();
+                        before.out = (0..room).map(|i| i as u8 | 1).collect();
+                        match part {
+                            0 => before.seat.resize(n, 1),
+                            1 => before.core.resize(n, 1),
+                            2 => before.stakes.resize(n, 1),
+                            3 => before.votes.resize(n, 0),
+                            _ => before.timeouts.resize(n, 0),
+                        }
+                        for record in &records {
+                            let (mut ours, mut theirs) = (before.clone(), before.clone());
+                            let (a, b) = (library_step(&mut ours, record), theirs.step(record));
+                            if a != b || ours != theirs {
+                                differ(2, steps, record, &before, (&ours, a), (&theirs, b));
+                            }
+                            steps += 1;
+                        }
+                    }
+                }
+            }
+        }
+    }
+    println!("{steps} steps at the limits of every length, no difference");
+}

@@ -547,6 +547,7 @@ impl Replica {
                 break;
             }
             chain.push(up);
+            assert!(chain.len() <= self.table.len(), "more COMMITs than slots");
             child = up;
         }
         self.last_committed = b0.round;
