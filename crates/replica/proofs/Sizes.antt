@@ -9,6 +9,7 @@ use native.Mathlib.Omega.{arith}
 use borrow.Author.Tests.{eqb-true, eqb-false}
 use lib.Dec.{ltb, eqb, lit≤}
 use lib.ListN.{length, length-append, drop}
+use Rattle.certificates.specs.Error.{waitParent}
 use Rattle.certificates.specs.Config.{quorumOf, stakeOf}
 use Rattle.certificates.specs.Start.{setupAt}
 use Rattle.certificates.specs.Leader.{leaderOf}
@@ -23,7 +24,8 @@ use Rattle.certificates.specs.declared.messages.Checked.{Checked}
 use Rattle.trace.specs.Form.{formOf}
 use Rattle.trace.specs.Limits.{limitOf}
 use Rattle.trace.specs.Fields.{voteOf, timeoutOf, blockOf}
-use Rattle.trace.specs.Layout.{roundMax, timeoutQC, tcBody, tcRound, qcPart, tcPart, blockQC, payloadOf}
+use Rattle.certificates.specs.Numbers.{roundMax}
+use Rattle.trace.specs.Layout.{timeoutQC, tcBody, tcRound, qcPart, tcPart, blockQC, payloadOf}
 use Rattle.trace.specs.declared.events.Kind.{Kind}
 use Rattle.trace.specs.declared.events.Block.{Block}
 use Rattle.trace.specs.declared.events.Vote.{Vote}
@@ -45,7 +47,6 @@ use Rattle.handlers.specs.Proposals.{Proposal, proposalCheck, advancedTC, taken
 use Rattle.synchronizer.specs.declared.table.Slot.{Slot}
 use Rattle.synchronizer.specs.declared.ancestors.Ancestors.{Ancestors}
 use Rattle.synchronizer.specs.declared.settle.Work.{Work}
-use Rattle.synchronizer.specs.Error.{waitParent}
 use Rattle.synchronizer.specs.Table.{placeOf, ancestorsOf}
 use Rattle.synchronizer.specs.Settle as settle
 use Rattle.synchronizer.specs.Settle.{isTwoChain, cleanOf, commitIf, commitRec, linkedOf, waitOf, processedBy, processedOf, settledOf, cleanMost, settleMost}

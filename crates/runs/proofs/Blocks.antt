@@ -16,6 +16,7 @@ use native.Mathlib.Omega.{arith}
 use borrow.Author.Tests.{ltb-true, ltb-false, eqb-true, lt-ltb}
 use lib.Dec.{ltb, eqb}
 use lib.ListN.{length}
+use Rattle.certificates.specs.Error.{waitParent, tableFull}
 use Rattle.certificates.specs.declared.messages.QC.{QC}
 use Rattle.certificates.specs.Config.{quorumOf}
 use Rattle.trace.specs.declared.events.Block.{Block}
@@ -24,7 +25,6 @@ use Rattle.aggregator.specs.Tallies.{votesLength, timeoutsLength}
 use Rattle.synchronizer.specs.declared.table.Slot.{Slot}
 use Rattle.synchronizer.specs.declared.ancestors.Ancestors.{Ancestors}
 use Rattle.synchronizer.specs.declared.settle.Work.{Work}
-use Rattle.synchronizer.specs.Error.{waitParent, tableFull}
 use Rattle.synchronizer.specs.Table.{placeOf, stored, ancestorsOf}
 use Rattle.synchronizer.specs.Walk.{Walk, refused as stopped, delivers, walkOf, committedBy, commitOf, noCommit}
 use Rattle.synchronizer.specs.Settle.{Settlement, answered, isTwoChain, cleanOf, commitIf, commitRec, linkedOf, waitOf, processedBy, processedOf}

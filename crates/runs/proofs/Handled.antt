@@ -17,7 +17,7 @@ use Rattle.certificates.specs.declared.messages.Checked.{Checked}
 use Rattle.certificates.specs.declared.messages.Checked.the-variants.{Accepted}
 use Rattle.certificates.specs.Config.{membersMax, stakeOf, quorumOf}
 use Rattle.certificates.specs.Num.{numAt, hashAt}
-use Rattle.certificates.specs.Numbers.{zeroHash, sameHash}
+use Rattle.certificates.specs.Numbers.{roundMax, zeroHash, sameHash}
 use Rattle.certificates.specs.Leader.{leaderOf}
 use Rattle.certificates.specs.Signers as signed
 use Rattle.certificates.specs.Messages.{Form, qcForm, tcForm, isGenesis, placesIn, checkPart, tcCheck, equalsGenesis, embeddedCheck, authorCheck}
@@ -28,7 +28,7 @@ use Rattle.certificates.proofs.MessageLaws.{author}
 use Rattle.certificates.proofs.Accepted.{certified, certified-known, walked-distinct, embedded-part, tc-part}
 use Rattle.trace.specs.declared.events.Vote.{Vote}
 use Rattle.trace.specs.declared.events.Block.{Block}
-use Rattle.trace.specs.Layout.{roundMax, blockQC, timeoutQC, tcBody, qcPart, tcPart, highsOf}
+use Rattle.trace.specs.Layout.{blockQC, timeoutQC, tcBody, qcPart, tcPart, highsOf}
 use Rattle.trace.specs.Fields.{timeoutOf, blockOf}
 use Rattle.trace.proofs.PartLaws.{qc-part-round}
 use Rattle.trace.proofs.FieldLaws.{timeout-qc-round, block-qc-round}

@@ -17,7 +17,7 @@ use Rattle.certificates.specs.Leader.{leaderOf}
 use Rattle.certificates.specs.Signers.{member}
 use Rattle.certificates.specs.Messages.{embeddedCheck, tcCheck, authorCheck}
 use Rattle.certificates.specs.Start.{setupAt}
-use Rattle.certificates.specs.Error.{waitPayload, invalidPayload, roundTooHigh, qcRequiresQuorum, tcRequiresQuorum, numberOf, authorNumber, noRoom}
+use Rattle.certificates.specs.Error.{waitPayload, invalidPayload, roundTooHigh, qcRequiresQuorum, tcRequiresQuorum, numberOf, authorNumber, noRoom, waitParent, ancestorAbsent, roundNotBelow, tableFull}
 use Rattle.trace.specs.declared.events.Kind.{Kind}
 use Rattle.trace.specs.declared.events.Block.{Block}
 use Rattle.trace.specs.declared.events.Timeout.{Timeout}
@@ -25,14 +25,14 @@ use Rattle.trace.specs.declared.events.Vote.{Vote}
 use Rattle.trace.specs.Form.{formOf}
 use Rattle.trace.specs.Limits.{limitOf}
 use Rattle.trace.specs.Fields.{voteOf, timeoutOf, blockOf}
-use Rattle.trace.specs.Layout.{roundMax, timeoutQC, tcBody, qcPart, tcPart, tcRound, payloadOf}
+use Rattle.certificates.specs.Numbers.{roundMax}
+use Rattle.trace.specs.Layout.{timeoutQC, tcBody, qcPart, tcPart, tcRound, payloadOf}
 use Rattle.aggregator.specs.declared.tallies.Added.{Added}
 use Rattle.aggregator.specs.declared.tallies.Added.the-variants.{NoRoom, Used, More, Full}
 use Rattle.aggregator.specs.Tallies.{voteAdded, votesAfter, timeoutAdded, timeoutsAfter}
 use Rattle.synchronizer.specs.declared.table.Slot.{Slot}
 use Rattle.synchronizer.specs.declared.ancestors.Parent.{Parent}
 use Rattle.synchronizer.specs.declared.settle.Work.{Work}
-use Rattle.synchronizer.specs.Error.{waitParent, ancestorAbsent, roundNotBelow, tableFull}
 use Rattle.synchronizer.specs.Table.{placeOf, stored, parentOf, ancestorsBy, ancestorsOf}
 use Rattle.synchronizer.specs.Walk.{Walk, refused as stopped, delivers, andNewer, onParent, walkFrom, walkOf, committedBy, commitOf, noCommit}
 use Rattle.synchronizer.specs.Settle.{answered, isTwoChain, commitIf, linkedOf, waitOf, processedBy, processedOf}

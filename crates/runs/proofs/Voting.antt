@@ -21,7 +21,8 @@ use Rattle.certificates.specs.Messages.{embeddedCheck, tcCheck, authorCheck}
 use Rattle.certificates.specs.Error.{roundTooHigh, qcRequiresQuorum, tcRequiresQuorum, numberOf, authorNumber}
 use Rattle.trace.specs.declared.events.Block.{Block}
 use Rattle.trace.specs.declared.events.Timeout.{Timeout}
-use Rattle.trace.specs.Layout.{roundMax, timeoutQC, tcBody, qcPart, tcPart}
+use Rattle.certificates.specs.Numbers.{roundMax}
+use Rattle.trace.specs.Layout.{timeoutQC, tcBody, qcPart, tcPart}
 use Rattle.outputs.specs.Records.{vote, timeout, timerReset}
 use Rattle.aggregator.specs.Tallies.{votesLength, timeoutsLength}
 use Rattle.synchronizer.specs.declared.table.Slot.{Slot}

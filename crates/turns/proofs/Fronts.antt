@@ -32,31 +32,31 @@ module _ (s : List ℕ) {n : ℕ} (e : n ≡ numAt 2 s 0) where
   pub cut-more : n ≤ recordMax → more ≡ cutMet s
   cut-more h = rw (← e, le-ltb _ _ h)
 
-module _ {part s : List ℕ} (e : part ≡ s) {f : Front} (p : f ≡ splitOf part) (at : ℕ) where
+module _ (s : List ℕ) {f : Front} (p : f ≡ splitOf s) (at : ℕ) where
   pub ahead-end : f ≡ End → noneAt more at ≡ aheadOf at s
   unfolding aheadOf
-  ahead-end q = rw (← e, ← p, q)
+  ahead-end q = rw (← p, q)
 
-  pub ahead-cut : {m : ℕ} → f ≡ Cut → m ≡ cutMet part → noneAt m at ≡ aheadOf at s
+  pub ahead-cut : {part : List ℕ} {m : ℕ} → part ≡ s → f ≡ Cut → m ≡ cutMet part → noneAt m at ≡ aheadOf at s
   unfolding aheadOf
-  ahead-cut q h = rw (← e, ← p, q, h)
+  ahead-cut e q h = rw (← p, q, h, e)
 
   pub ahead-small : {end : ℕ} → f ≡ Small end → oneAt at end ≡ aheadOf at s
   unfolding aheadOf
-  ahead-small q = rw (← e, ← p, q)
+  ahead-small q = rw (← p, q)
 
   pub ahead-record : {kind end : ℕ} → f ≡ Record kind end → oneAt at end ≡ aheadOf at s
   unfolding aheadOf
-  ahead-record q = rw (← e, ← p, q)
+  ahead-record q = rw (← p, q)
 
 -- ---- where a record ends
 
 part-length : (at have : ℕ) (t : List ℕ) → length (between at have t) ≤ have - at
 part-length at have t = rw length-take (omega arith)
 
-module _ {part : List ℕ} (at have : ℕ) (t : List ℕ) (e : part ≡ between at have t) {f : Front} (p : f ≡ splitOf part) where
+module _ (at have : ℕ) (t : List ℕ) {f : Front} (p : f ≡ splitOf (between at have t)) where
   bounds : {g : Front} → f ≡ g → Bounds g (length (between at have t))
-  bounds {g} q = rw (← e) (front-bounds part g (sym q ∙ p))
+  bounds {g} q = front-bounds (between at have t) g (sym q ∙ p)
 
   pub small-within : {end : ℕ} → f ≡ Small end → (2 ≤ end) × (at + end ≤ have)
   small-within q = let b = bounds q in omega (arith, part-length at have t)
@@ -93,5 +93,5 @@ module _ (at have : ℕ) (t : List ℕ) where
       → between (aheadBy f at (between at have t) .from) (aheadBy f at (between at have t) .to) t ≡ recordOf f (between at have t)
   ahead-record-is End p = none-there
   ahead-record-is Cut p = none-there
-  ahead-record-is (Small end) p = let b = small-within at have t refl p refl in one-there end (b .0) (b .1)
-  ahead-record-is (Record kind end) p = let b = record-within at have t refl p refl in one-there end (b .0) (b .1)
+  ahead-record-is (Small end) p = let b = small-within at have t p refl in one-there end (b .0) (b .1)
+  ahead-record-is (Record kind end) p = let b = record-within at have t p refl in one-there end (b .0) (b .1)

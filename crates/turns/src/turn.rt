@@ -4,6 +4,7 @@ use certificates::num::u16_at;
 use moves::state::Core;
 use outputs::records::ANSWER_SIZE;
 use outputs::records::put_answer;
+use reader::reader::front_from;
 use replica::stages::Stepped;
 use replica::started::Seat;
 use replica::step::Order;
@@ -12,7 +13,6 @@ use synchronizer::table::Slot;
 use trace::part::middle;
 use trace::record::Front;
 use trace::record::RECORD_MAX;
-use trace::record::split;
 ghost use mathlib.Core.Path.{_≡_};
 ghost use Prim.Native.Nat.{_+_, _≤_};
 ghost use lib.ListN.{length};
@@ -69,7 +69,7 @@ pub(crate) fn ahead_of(trace: &[u8], run: Run) -> Ahead
     ensures { λ r. ⌜ r ≡ aheadOf (run .at) (between (run .at) (run .have) (now (trace .entry))) ⌝ }
 {
     let part = middle(trace, run.at, run.have);
-    match split(part) {
+    match front_from(trace, run.at, run.have) {
         Front::End => Ahead {
             met: MORE,
             from: run.at,
