@@ -1,6 +1,7 @@
 -- A trace that is read in pieces.
 --     turned-event, turned-waits, turned-over     a turn by what stands at the front
 --     trace-in-pieces      THE LAW: the records of a trace p ++ q are those of the turns at the front of p, and then those of what is left of p and of q, from the world that the turns leave
+--     turn-then            the same of one turn: its records, and then those of what follows what it took
 --     fed-ledger, fed-all  however the input comes in pieces, what is written is `ledgerOf` of the whole
 -- What they ask of a replica, `Answers`, is that the output has room for each event's records and its ANSWER, and goes on to have it.
 -- Assumes nothing.
@@ -137,16 +138,15 @@ module _ {room : ℕ} {Good : World → Type 0} (a : Answers room Good) where
   event-stays w s g = a .stays w (recordOf (splitOf s) s) g
 
   -- an event, and then what follows
+  event-ledger : (w : World) (s q : List ℕ) (f : Front) → f ≡ splitOf s → Whole f
+      → ledgerOf w room (s ++ q) ≡ eventAt w room s .outs ++ answer (eventAt w room s .answer) ∷ ledgerOf (eventAt w room s .world) room (restOf f s ++ q)
+  event-ledger w s q f p h = ledger-event room w (s ++ q) f (front-append s q f h p) h ∙ rw (event-same w s q f p h, rest-append s q f h p)
+
   on-event : (n : ℕ) (w : World) (s q : List ℕ) (f : Front) → f ≡ splitOf s → Whole f → Good w
       → InPieces (eventAt w room s .world) (restOf f s) q (playedIn n (eventAt w room s .world) room (restOf f s)) → InPieces w s q (playedIn (suc n) w room s)
   unfolding playedIn
   on-event n w s q f p h g ih =
-      let x : Result = eventAt w room s in
-      let y : Played = playedIn n (x .world) room (restOf f s) in
-      let tail : List Rec = cond (y .over) [] (ledgerOf (y .world) room (y .rest ++ q)) in
-      let whole : ledgerOf w room (s ++ q) ≡ x .outs ++ answer (x .answer) ∷ ledgerOf (x .world) room (restOf f s ++ q) =
-      ledger-event room w (s ++ q) f (front-append s q f h p) h ∙ rw (event-same w s q f p h, rest-append s q f h p) in
-      rw (turned-event w room s f p h, rest-is f s h, event-answers w s g) (whole ∙ rw (ih, append-assoc, append-assoc))
+      rw (turned-event w room s f p h, rest-is f s h, event-answers w s g) (event-ledger w s q f p h ∙ rw (ih, append-assoc, append-assoc))
 
   waits-on : (n : ℕ) (w : World) (s q : List ℕ) → turned w room s ≡ waiting w → InPieces w s q (playedIn (suc n) w room s)
   unfolding playedIn
@@ -180,6 +180,30 @@ module _ {room : ℕ} {Good : World → Type 0} (a : Answers room Good) where
       ≡ playedOf w room p .outs ++ cond (playedOf w room p .over) [] (ledgerOf (playedOf w room p .world) room (playedOf w room p .rest ++ q))
   unfolding playedOf
   trace-in-pieces w p q g = played-in (length p) q w p g (omega arith)
+
+  -- ---- one turn, as the step of a loop
+
+  abbrev TurnThen : World → List ℕ → List ℕ → Type 0
+  TurnThen w s q = ledgerOf w room (s ++ q) ≡ turned w room s .outs ++ ledgerOf (turned w room s .world) room (drop (turned w room s .taken) s ++ q)
+
+  then-event : (w : World) (s q : List ℕ) (f : Front) → f ≡ splitOf s → Whole f → Good w → TurnThen w s q
+  then-event w s q f p h g = rw (turned-event w room s f p h, rest-is f s h, event-answers w s g) (event-ledger w s q f p h ∙ rw append-assoc)
+
+  not-taken : (w : World) (s : List ℕ) {t : Turning} → turned w room s ≡ t → (t .met ≡ answered → ⊥) → turned w room s .met ≡ answered → ⊥
+  not-taken w s e n m = n (sym (ap (λ (u : Turning). u .met) e) ∙ m)
+
+  cut-not-taken : (w : World) (s : List ℕ) → Cut ≡ splitOf s → (long : Bool) → isTooLong s ≡ long → turned w room s .met ≡ answered → ⊥
+  cut-not-taken w s p true e = not-taken w s (turned-over w room s p e) (λ z. absurd (omega arith))
+  cut-not-taken w s p false e = not-taken w s (turned-waits w room s p e) (λ z. absurd (omega arith))
+
+  then-by : (w : World) (s q : List ℕ) (f : Front) → f ≡ splitOf s → Good w → turned w room s .met ≡ answered → TurnThen w s q
+  then-by w s q End p g m = absurd (not-taken w s (turned-end w room s p) (λ z. absurd (omega arith)) m)
+  then-by w s q Cut p g m = absurd (cut-not-taken w s p (isTooLong s) refl m)
+  then-by w s q (Small end) p g m = then-event w s q (Small end) p tt g
+  then-by w s q (Record kind end) p g m = then-event w s q (Record kind end) p tt g
+
+  pub turn-then : (w : World) (s q : List ℕ) → Good w → turned w room s .met ≡ answered → TurnThen w s q
+  turn-then w s q g m = then-by w s q (splitOf s) refl g m
 
   -- ---- where the turns end: more is waited for, or the run is over
 

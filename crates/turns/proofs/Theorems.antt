@@ -1,11 +1,11 @@
 -- What follows from the definition of a turn and of a whole trace.
 --     turn-unique            the contract permits one outcome
 --     past-unchanged         "Output bytes past the written count never change."
---     taken-within           what is taken lies in what was read
+--     taken-within, at-within     what is taken lies in what was read
 --     short-record           "Any other bad record gets 16 and the next is read": one of length 0 or 1
 --     answers-fit            with 44 bytes a slot, 2,048 and 6 more, the ANSWER of every event of a run fits
 --     turn-answers           then a record that is taken gets its outputs and its ANSWER
---     in-pieces              THE LAW of Pieces, with that room
+--     one-turn, in-pieces    the laws of Pieces, with that room: a turn, and the turns at the front of a piece
 --     any-pieces             however the input comes in pieces, the turns write `ledgerOf` of the whole
 -- Assumes nothing.
 use Prim.Native.Nat.{ℕ, _+_, _-_, _≤_, _<_}
@@ -35,7 +35,7 @@ use Rattle.turns.specs.Turn.{answered, answersIn, Turning, isTooLong, tu
 use Rattle.turns.specs.Ledger.{eventAt, ledgerOf}
 use Rattle.turns.specs.Pieces.{playedOf, fedOf}
 use Rattle.turns.proofs.Fronts.{takenBy}
-use Rattle.turns.proofs.Pieces.{Answers, turned-event, event-answers, trace-in-pieces, fed-all}
+use Rattle.turns.proofs.Pieces.{Answers, turned-event, event-answers, turn-then, trace-in-pieces, fed-all}
 
 -- two outcomes that the contract permits are one
 pub turn-unique : {a b : Left} (w : World) (s : List ℕ) (at have : ℕ) (out : List ℕ) → a ≡ laidIn (turned w (length out) s) at have out
@@ -122,6 +122,11 @@ module _ (room : ℕ) (w : World) (g : Roomy room w) where
       → turned w room s
       ≡ record { met = answered; world = eventAt w room s .world; taken = takenBy f; outs = eventAt w room s .outs ++ answer (eventAt w room s .answer) ∷ [] }
   turn-answers s f p h = turned-event w room s f p h ∙ rw (event-answers (answers-fit room) w s g)
+
+  -- one turn that takes a record, as the step of a loop over a buffer s with q still to come
+  pub one-turn : (s q : List ℕ) → turned w room s .met ≡ answered
+      → ledgerOf w room (s ++ q) ≡ turned w room s .outs ++ ledgerOf (turned w room s .world) room (drop (turned w room s .taken) s ++ q)
+  one-turn s q m = turn-then (answers-fit room) w s q g m
 
   pub in-pieces : (p q : List ℕ)
       → ledgerOf w room (p ++ q)

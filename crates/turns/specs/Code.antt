@@ -1,6 +1,7 @@
 -- How the code goes about a turn: what stands at the front, an event, and the ANSWER. `proofs.TurnLaws` shows that the three together are
 -- `turned`.
 --     cutMet s                  what is met where the front s is cut
+--     noneAt met at, oneAt at end       no record; a record that ends `end` bytes after `at`
 --     aheadBy f at s, aheadOf at s      what is met, and where the record lies, in a buffer in which the front s begins at `at`
 --     orderAt run ahead        the event that the replica is asked for
 --     closing met x room        the ANSWER that is written behind what an event wrote

@@ -4,6 +4,7 @@
 --     isTooLong s                   whether the length at the front of s is above the most
 --     answersIn room outs n         the ANSWER behind these outputs, in an output of `room` bytes
 --     Turning                       what is met, the world that is left, the bytes that are taken, the records that are written
+--     waiting w, taking end room x            a turn that finds no whole record; one that takes a record of which the replica made x
 --     turnedBy f w room s, turned w room s    a turn, where f stands at the front of s
 --     Left, laidIn x at have out    a turn laid into a buffer: the run, and every byte of the output
 --     leftBy                        what code hands back

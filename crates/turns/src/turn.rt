@@ -32,7 +32,7 @@ pub const MORE: u8 = 1;
 pub const TOO_LONG: u8 = 2;
 
 // The replica's part by value, and the bytes of the buffer that were read and not taken: those from
-// `at` up to `have`.
+// `at` up to `have`, as far as the buffer has them.
 pub struct Run {
     pub seat: Seat,
     pub core: Core,
