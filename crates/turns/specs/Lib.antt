@@ -1,0 +1,4 @@
+pub mod Turn
+pub mod Code
+pub mod Ledger
+pub mod Pieces
