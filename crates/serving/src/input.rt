@@ -1,7 +1,7 @@
 // More of the trace is read into the buffer.
 use crate::state::ENDED;
-use crate::state::NO_ROOM;
 use crate::state::Got;
+use crate::state::NO_ROOM;
 use crate::state::Serving;
 use crate::state::allowed;
 use crate::state::brought;

@@ -163,6 +163,14 @@ pub fn serve_new(input: i32, output: i32, mode: u8, left: u64, due: u64) -> Serv
     let mut buf = io::large_buffer();
     let mut pack = io::large_buffer();
     let s = fresh(input, output, mode, left, due);
-    let u = serve_in(&mut stakes, &mut votes, &mut timeouts, &mut out, &mut buf, &mut pack, s);
+    let u = serve_in(
+        &mut stakes,
+        &mut votes,
+        &mut timeouts,
+        &mut out,
+        &mut buf,
+        &mut pack,
+        s,
+    );
     told(close(&pack, u))
 }
