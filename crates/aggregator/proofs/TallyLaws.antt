@@ -8,7 +8,7 @@
 --     vote-is, timeout-is            what a tally is that is looked up
 -- Assumes nothing.
 use Prim.Native.Nat.{ℕ, _+_, _-_, _*_, _/_, _%_, _≤_, _<_, _^_}
-use mathlib.Core.Bool.{Bool, true, false, cond}
+use mathlib.Core.Bool.{Bool, true, false, not, cond}
 use mathlib.Core.List.{List}
 use mathlib.Core.Path.{_≡_, refl, sym, ap, _∙_}
 use native.Mathlib.Nat.{zero-div, div-self}
@@ -52,11 +52,19 @@ module _ (round used of : ℕ) where
   of-used h = rw (ne-eqb _ _ h)
 
 module _ (used weight total : ℕ) where
-  pub heavy-free : used ≡ 0 → false ≡ heavyWith used weight total
-  heavy-free h = rw (eq-eqb _ _ h)
+  pub heavy-over : total < weight → not (eqb used 0) ≡ heavyWith used weight total
+  heavy-over h = rw (lt-ltb _ _ h) (by-mark (eqb used 0))
+    where
+      by-mark : (e : Bool) → not e ≡ cond e false true
+      by-mark true = refl
+      by-mark false = refl
 
-  pub heavy-used : (used ≡ 0 → ⊥) → ltb total weight ≡ heavyWith used weight total
-  heavy-used h = rw (ne-eqb _ _ h)
+  pub heavy-under : weight ≤ total → false ≡ heavyWith used weight total
+  heavy-under h = rw (le-ltb _ _ h) (by-mark (eqb used 0))
+    where
+      by-mark : (e : Bool) → false ≡ cond e false false
+      by-mark true = refl
+      by-mark false = refl
 
 module _ (round : ℕ) (t : List ℕ) where
   pub keep-dropped : {t′ : List ℕ} → (getD t 0 0 ≡ 0 → ⊥) → getD t 1 0 < round → t′ ≡ zeros (length t) → t′ ≡ kept round t

@@ -10,7 +10,6 @@
 use crate::tally::HIGHS;
 use crate::tally::PLACES;
 use crate::tally::ROUND;
-use crate::tally::WEIGHT;
 use crate::tally::append;
 use crate::tally::append_high;
 use crate::tally::is_heavy;
@@ -276,7 +275,7 @@ pub fn find_heavy(v: &[u64], w: usize, n: usize, total: Stake) -> Found
     let mut i: usize = 0;
     while i < n {
         let from = i * w;
-        if is_heavy(v[from], v[from + WEIGHT], total) {
+        if is_heavy(v, from, total) {
             return Found::At(i);
         }
         i += 1;

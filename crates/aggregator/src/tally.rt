@@ -13,7 +13,7 @@ use certificates::numbers::Stake;
 use certificates::numbers::same_hash;
 ghost use mathlib.Core.Path.{_≡_};
 ghost use Prim.Native.Nat.{_+_, _≤_, _<_, _^_};
-ghost use lib.ListN.{length};
+ghost use lib.ListN.{length, getD};
 ghost use Rattle.aggregator.specs.Tally.{fields, places, voteWidth, timeoutWidth, weightOf, isVote, roundWith, heavyWith, kept, newVote, newTimeout, noHigh, withHigh, answerOf, counted, AddedAs};
 
 // Where a tally's numbers lie.
@@ -69,14 +69,16 @@ pub(crate) fn is_of(used: u64, of: u64, round: Round) -> bool
     of == round.0
 }
 
-// Whether a tally with this used mark and weight is in use and heavier than the total.
-pub(crate) fn is_heavy(used: u64, weight: u64, total: Stake) -> bool
-    ensures { λ r. ⌜ r ≡ heavyWith used weight (total .0) ⌝ }
+// Whether the tally that begins at `from` is in use and heavier than the total. Few are heavier, so
+// the weight is looked at first.
+pub(crate) fn is_heavy(v: &[u64], from: usize, total: Stake) -> bool
+    requires { ⌜ from + fields ≤ length (now v) ⌝ }
+    ensures { λ r. ⌜ r ≡ heavyWith (getD (now (v .entry)) from 0) (getD (now (v .entry)) (from + 2) 0) (total .0) ⌝ }
 {
-    if used == 0 {
-        return false;
+    if (total.0 as u64) < v[from + WEIGHT] {
+        return v[from] != 0;
     }
-    (total.0 as u64) < weight
+    false
 }
 
 // A tally as it stands once the round is `round`: all zeros if it is of an earlier one.

@@ -27,23 +27,8 @@ within c = omega (arith, row-end (c .before .before .before .args .w) (c .before
 mul-from : tie.Need-mul-from Inv-loop μ-loop
 mul-from c = omega (arith, within c)
 
-mul-is-heavy : tie.Need-mul-is-heavy Inv-loop μ-loop
-mul-is-heavy c = omega (arith, within c)
-
-shared-slice-read-is-heavy : tie.Need-shared-slice-read-is-heavy Inv-loop μ-loop
-shared-slice-read-is-heavy c = omega (arith, within (c .before))
-
-add-is-heavy : tie.Need-add-is-heavy Inv-loop μ-loop
-add-is-heavy c = omega (arith, within (c .before))
-
-mul-is-heavy-2 : tie.Need-mul-is-heavy-2 Inv-loop μ-loop
-mul-is-heavy-2 c = omega (arith, within (c .before))
-
-shared-slice-read-is-heavy-2 : tie.Need-shared-slice-read-is-heavy-2 Inv-loop μ-loop
-shared-slice-read-is-heavy-2 c = omega (arith, within (c .before .before))
-
 is-heavy-requires : tie.Need-is-heavy-requires Inv-loop μ-loop
-is-heavy-requires c κs = search needs
+is-heavy-requires c κs = omega (arith, within c)
 
 returns : tie.Need-returns Inv-loop μ-loop
 returns c = search (needs, heavy-hit)
@@ -68,11 +53,6 @@ find-heavy-spec =
     μ-loop
     loop-holds
     mul-from
-    mul-is-heavy
-    shared-slice-read-is-heavy
-    add-is-heavy
-    mul-is-heavy-2
-    shared-slice-read-is-heavy-2
     is-heavy-requires
     returns
     add-i
