@@ -1,8 +1,7 @@
 """docs/BESIDE.md: scenarios run by this port and by the Rust, side by side.
 
-The scripts are those of tests/scenarios whose names begin with `shunt`, `difference_` or `paper_`. A script whose
-opening comment says `--raw` is given to the Rust with that option. One more, oracle/absent_ancestor.txt, is for the
-Rust alone.
+The scripts are those of tests/scenarios that PARTS names. A script whose opening comment says `--raw` is given to the
+Rust with that option. One more, oracle/absent_ancestor.txt, is for the Rust alone.
 """
 
 import difflib
@@ -117,6 +116,7 @@ def beside(mine, theirs):
 
 
 def section(scenario, port):
+    """A scenario's table; with a port it is tried whether an event can be left out."""
     programs = [("The Rust", ORACLE)] + [("The Rust, release build", WRAP)] * ("release build" in scenario.words)
     here = [lines_of(e, scenario.names) for e in scenario.expected()]
     runs = [rust_lines(scenario, scenario.records, program) for _, program in programs]
@@ -137,7 +137,7 @@ def section(scenario, port):
     ours, theirs = delivered(here), delivered(there)
     if ours or theirs:
         out += ["", f"Delivered here: {', '.join(ours) or 'nothing'}. By the Rust: {', '.join(theirs) or 'nothing'}."]
-    if scenario.name.startswith("difference_") and any(parted(here[-1], there[-1])):
+    if port and any(parted(here[-1], there[-1])):
         out += ["", SMALL if smallest(scenario, port) else NOT_SMALL]
     return out + [""]
 
@@ -162,27 +162,29 @@ unchanged Rust at 082d36d637 on the same trace (`oracle --rust`): its outputs in
 does that 01 has no record for. What differs is bold. "No event can be left out": without any one of them the last event
 shows no such difference (tried). What each difference means and why it is there: docs/DIFFERENCES.md."""
 
+# The beginnings of the scripts' names, the title, and whether a script is the smallest of its kind.
+STORY = ("shunt", "commit_genesis_never", "commit_old_block_not_again", "commit_oldest_first")
 PARTS = (
-    ("shunt", "The shunt's story"),
-    ("difference_", "Between the Rust and 01"),
-    ("paper_", "Between the Rust and the Jolteon paper: the Rust and this port do the same"),
+    (STORY, "The shunt's story", False),
+    (("difference_", "commit_chain_of_three"), "Between the Rust and 01", True),
+    (("paper_",), "Between the Rust and the Jolteon paper: the Rust and this port do the same", False),
 )
 
 
 def page(port):
     out, wrong = INTRODUCTION.split("\n") + [""], []
-    for start, title in PARTS:
+    for starts, title, small in PARTS:
         out += [f"## {title}", ""]
-        for name in sorted(os.listdir(SCENARIOS)):
-            if not name.startswith(start):
+        for name in sorted(os.listdir(SCENARIOS), key=lambda name: (not name.startswith("shunt"), name)):
+            if not name.startswith(starts):
                 continue
             scenario = Scenario(os.path.join(SCENARIOS, name))
             if port(b"".join(scenario.records)) != b"".join(scenario.expected()):
                 wrong.append(f"{scenario.script.name}: the port writes something else")
-            part = section(scenario, port)
+            part = section(scenario, port if small else None)
             wrong += [f"{scenario.script.name}: an event can be left out"] if NOT_SMALL in part else []
             out += part
-        if start == "difference_":
+        if small:
             out += absent()
     return "\n".join(out).rstrip() + "\n", wrong
 

@@ -83,8 +83,8 @@ def made():
         how, traces = family()
         answers = rust(traces)
         pairs = list(dict.fromkeys(cut(t, *a) for t, a in zip(traces, answers)))
-        for trace, (outputs, code) in zip(traces, answers):
-            coverage.add(trace, outputs, code)
+        for trace, outputs in pairs:
+            coverage.add(trace, outputs, 0)
         files[f"{name}.traces"] = pack(t for t, _ in pairs)
         files[f"{name}.answers"] = pack(a for _, a in pairs)
         rows.append((name, len(pairs), sum(len(records_of(t)) for t, _ in pairs), how))

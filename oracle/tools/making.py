@@ -139,6 +139,15 @@ class Random:
             return tick()
         return d.choice([packed(d.choice([0, 3, 7, 8, 0x0101]), bytes(d.below(5))), b"\0\0", b"\1\0\7", start()])
 
+    def filler(self):
+        """An event that takes room: a vote or a timeout of its own tally, or a new block."""
+        d, now = self.dice, self.model.round
+        if self.fill == "votes":
+            return vote(digest(10**6 + d.below(80)), now + d.below(3), self.place(), 1)
+        if self.fill == "timeouts":
+            return timeout(now + d.below(40), self.place(), qc(), 1)
+        return loopback(block(digest(10**6 + d.below(500)), self.place(), now + 1 + d.below(9), qc()))
+
     def damaged(self, record):
         """One byte changed, or bytes cut off or added; the length fits."""
         d, body = self.dice, bytearray(record[2:])
@@ -170,8 +179,9 @@ class Random:
         if self.odd(0.05):
             high = 2**62 - self.dice.below(12)
             self.push(tc_event(tc(high, [(p, 0) for p in range(self.n) if self.stakes[p]])))
+        self.fill = self.dice.choice(["votes", "timeouts", "blocks"]) if rooms else None
         for _ in range(count):
-            record = self.event()
+            record = self.filler() if rooms and self.odd(0.7) else self.event()
             if self.odd(self.chaos / 5):
                 record = self.damaged(record)
             if not self.push(record, rooms):
