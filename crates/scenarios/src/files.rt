@@ -59,10 +59,7 @@ pub(crate) fn sum_file(name: &[u8], ending: &[u8], sum: u32) -> u32 {
     if from < 0 {
         return sum;
     }
-    let mut s = Summing {
-        sum,
-        done: false,
-    };
+    let mut s = Summing { sum, done: false };
     let mut done = false;
     let mut turns = u32::MAX;
     while turns > 0 && !done {

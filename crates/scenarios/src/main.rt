@@ -51,6 +51,7 @@ fn play_trace(name: &[u8]) -> bool {
         return false;
     }
     if output < 0 {
+        libc::close(input);
         say(b".expect: missing\n");
         return false;
     }
@@ -102,10 +103,7 @@ fn play_list(file: &[u8], packs: bool, before: Tally) -> Tally {
 }
 
 fn main() {
-    let none = Tally {
-        all: 0,
-        equal: 0,
-    };
+    let none = Tally { all: 0, equal: 0 };
     let traces = play_list(b"traces", false, none);
     let both = play_list(b"packs", true, traces);
     io::print_decimal(STDOUT_FILENO, both.equal);

@@ -133,6 +133,7 @@ pub(crate) fn play_pack(name: &[u8]) -> bool {
         return false;
     }
     if answers < 0 {
+        libc::close(traces);
         say(b".answers: missing\n");
         return false;
     }
