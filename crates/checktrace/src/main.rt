@@ -3,14 +3,14 @@
 // above 4,096 or a record cut by the end gets ANSWER 16 and ends the run."
 //
 // What is answered is in `forms::run`, on slices. What is here moves bytes, and is proved safe.
+use buffers::shift;
 use certificates::error::BAD_RECORD;
 use libc::STDIN_FILENO;
 use libc::STDOUT_FILENO;
 use outputs::records::ANSWER_SIZE;
 use outputs::records::put_answer;
-ghost use Prim.Native.Nat.{_+_, _-_, _≤_};
-ghost use mathlib.Core.Path.{_≡_};
-ghost use lib.ListN.{length, take, drop};
+ghost use Prim.Native.Nat.{_+_, _≤_};
+ghost use lib.ListN.{length};
 
 // The bytes from start up to have are trace that was read and not taken.
 struct State {
@@ -25,20 +25,6 @@ fn end() -> State {
         have: 0,
         done: true,
     }
-}
-
-// Moves what lies from start up to have to the front of buf, and answers how much that is.
-fn shift(buf: &mut [u8], start: usize, have: usize) -> usize
-    requires { ⌜ (start ≤ have) × (have ≤ length (now buf)) ⌝ }
-    ensures { λ r. ⌜ (r ≡ have - start) × (take r (now (buf .exit)) ≡ take r (drop start (now (buf .entry)))) ⌝ }
-{
-    let n = have - start;
-    let mut i = 0;
-    while i < n {
-        buf[i] = buf[start + i];
-        i += 1;
-    }
-    n
 }
 
 // One read into buf from `have` on, and how many bytes it brought: 0 at the end of the input, or
