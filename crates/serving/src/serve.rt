@@ -29,14 +29,15 @@ use turns::turn::MORE;
 use turns::turn::Turned;
 use turns::turn::turn;
 ghost use mathlib.Core.Path.{_≡_};
-ghost use Prim.Native.Nat.{_≤_};
-ghost use lib.ListN.{replicate};
+ghost use Prim.Native.Nat.{_+_, _≤_};
+ghost use lib.ListN.{length, replicate};
+ghost use Rattle.outputs.specs.Records.{answerSize};
+ghost use Rattle.replica.specs.Started.{roomFor};
 ghost use Rattle.synchronizer.specs.Table.{blank};
 ghost use Rattle.serving.specs.State.{passedBy, slots};
 ghost use Rattle.serving.specs.Bytes.{Passes};
 
-// 01, The trace form: "with a 256-slot table"; and the room for the most that an event writes over
-// such a table, and its ANSWER.
+// 01, The trace form: "with a 256-slot table"; and the bytes of the output buffer.
 pub const SLOTS: usize = 256;
 
 pub const OUT_ROOM: usize = 13318;
@@ -136,6 +137,13 @@ pub(crate) fn blank_table() -> [Slot; SLOTS]
     [s; SLOTS]
 }
 
+// Room for the most that an event over such a table writes, and its ANSWER.
+fn out_buffer() -> [u8; OUT_ROOM]
+    ensures { λ r. ⌜ roomFor slots + answerSize ≡ length r ⌝ }
+{
+    [0; OUT_ROOM]
+}
+
 // The same with an empty table, which is made and lent here.
 pub(crate) fn serve_in(
     stakes: &mut [u32],
@@ -159,7 +167,7 @@ pub fn serve_new(input: i32, output: i32, mode: u8, left: u64, due: u64) -> Serv
     let mut stakes = [0u32; MEMBERS_MAX];
     let mut votes = [0u64; VOTE_TALLIES * VOTE_WIDTH];
     let mut timeouts = [0u64; TIMEOUT_TALLIES * TIMEOUT_WIDTH];
-    let mut out = [0u8; OUT_ROOM];
+    let mut out = out_buffer();
     let mut buf = io::large_buffer();
     let mut pack = io::large_buffer();
     let s = fresh(input, output, mode, left, due);
