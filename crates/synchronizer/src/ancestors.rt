@@ -96,7 +96,11 @@ pub(crate) fn ancestors_by(p1: Parent, p0: Parent) -> Ancestors
     let b1 = p1.slot;
     if p1.found {
         if p0.found {
-            return Ancestors { answer: DONE, b0, b1 };
+            return Ancestors {
+                answer: DONE,
+                b0,
+                b1,
+            };
         }
         return Ancestors {
             answer: ANCESTOR_ABSENT,
