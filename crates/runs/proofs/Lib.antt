@@ -15,5 +15,6 @@ pub mod Handled
 pub mod Invariant
 pub mod OneDigest
 pub mod Example
+pub mod Readings
 pub mod Laws
 pub mod Refusals

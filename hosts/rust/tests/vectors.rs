@@ -5,11 +5,11 @@ mod plain;
 use nickelhush::{Records, Replica};
 use std::{env, fs, path::PathBuf};
 
-/// NICKELHUSH_VECTORS, or the folder that the repository replays, or that of the shared vectors beside it.
-fn folder() -> PathBuf {
-    let root = PathBuf::from(env!("CARGO_MANIFEST_DIR")).join("../..");
-    let places = [root.join("crates/scenarios/data"), root.join("../shared/vectors")];
-    env::var_os("NICKELHUSH_VECTORS").map(PathBuf::from).or_else(|| places.into_iter().find(|p| p.is_dir())).expect("vectors")
+/// NICKELHUSH_VECTORS, or the vectors and scenarios that the gate replays.
+fn folders() -> Vec<PathBuf> {
+    let data = PathBuf::from(env!("CARGO_MANIFEST_DIR")).join("../../crates/scenarios/data");
+    let stored = || vec![data.join("vectors"), data.join("scenarios")];
+    env::var_os("NICKELHUSH_VECTORS").map(|folder| vec![PathBuf::from(folder)]).unwrap_or_else(stored)
 }
 
 fn answer(all: &mut Vec<u8>, number: u16) {
@@ -34,8 +34,7 @@ fn play(trace: &[u8]) -> Vec<u8> {
 #[test]
 fn every_vector() {
     let mut count = 0;
-    for entry in fs::read_dir(folder()).unwrap() {
-        let path = entry.unwrap().path();
+    for path in folders().iter().flat_map(|folder| fs::read_dir(folder).unwrap()).map(|entry| entry.unwrap().path()) {
         if path.extension().is_some_and(|e| e == "trace") {
             let (trace, expect) = (fs::read(&path).unwrap(), fs::read(path.with_extension("expect")).unwrap());
             assert!(play(&trace) == expect, "{}", path.display());
