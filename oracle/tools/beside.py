@@ -175,7 +175,8 @@ def page(port):
     out, wrong = INTRODUCTION.split("\n") + [""], []
     for starts, title, small in PARTS:
         out += [f"## {title}", ""]
-        for name in sorted(os.listdir(SCENARIOS), key=lambda name: (not name.startswith("shunt"), name)):
+        scripts = [name for name in os.listdir(SCENARIOS) if name.endswith(".txt")]
+        for name in sorted(scripts, key=lambda name: (not name.startswith("shunt"), name)):
             if not name.startswith(starts):
                 continue
             scenario = Scenario(os.path.join(SCENARIOS, name))
