@@ -16,6 +16,7 @@ use aggregator::tallies::VOTE_TALLIES;
 use aggregator::tallies::VOTE_WIDTH;
 use aggregator::tallies::clear;
 use certificates::config::MEMBERS_MAX;
+use outputs::records::COMMIT_SIZE;
 use replica::started::ROOM;
 use replica::started::SLOTS_MAX;
 use replica::step::step;
@@ -154,5 +155,5 @@ pub extern "C" fn nickelhush_room(slots: usize) -> usize
     if SLOTS_MAX < slots {
         return 0;
     }
-    44 * slots + ROOM
+    COMMIT_SIZE * slots + ROOM
 }

@@ -6,6 +6,7 @@ use Prim.Native.Nat.{ℕ}
 use mathlib.Core.List.{List}
 use mathlib.Core.Path.{_≡_}
 use lib.ListN.{length}
+use Rattle.handlers.specs.Votes.{votingMost}
 use Rattle.trace.specs.Fields.{blockOf}
 use Rattle.moves.specs.State.{whole}
 use Rattle.moves.specs.Outcome.{Outcome}
@@ -36,4 +37,4 @@ closing o s input =
 
 pub record Closes (o : Opened) (s : Settled) (input before : List ℕ) (h : Handed) (after : List ℕ) : Type 0 where
   pub held : h .replica .stakes ≡ o .stakes
-  pub done : Finishes (closing o s input) 111 (o .begun .seat) before (s .at) (steppedIn h) (h .replica .votes) (h .replica .timeouts) after
+  pub done : Finishes (closing o s input) votingMost (o .begun .seat) before (s .at) (steppedIn h) (h .replica .votes) (h .replica .timeouts) after

@@ -55,7 +55,7 @@ use Rattle.synchronizer.proofs.TableLaws.{cleared-length}
 use Rattle.synchronizer.proofs.SettleLaws.{commits-fit, settled-length, settled-silent, settled-block}
 use Rattle.replica.specs.Started.{roomFor, roomy}
 use Rattle.replica.specs.Blocks.{settledFor, afterSettled, processed, processedTable, goingOn, goingOnTable}
-use Rattle.replica.specs.Step.{World, announced, begunBy, begun, committee, handled, started, sizedIn, onStart, onOther, onKind, stepped}
+use Rattle.replica.specs.Step.{World, announced, begunBy, begun, committee, handled, started, sizedIn, onStart, onOther, onKind, stepped, announcedMost}
 
 -- ---- lists of records
 
@@ -302,13 +302,13 @@ module _ (w : World) where
       size-less _ (settleMost (length (w .table)) + votingMost) most (omega arith) (block-size (committee w) (w .seat .own .0) (w .table) (blockOf r) (w .state))
   handled-size r Kind.Tick = size-less _ localTimeoutMost most (omega arith) (handled-tick-size (committee w) (w .seat .own .0) (w .state))
 
-  announced-size : (m : List ℕ) (own : ℕ) (c : Core) → size (announced m own c) ≤ 65
+  announced-size : (m : List ℕ) (own : ℕ) (c : Core) → size (announced m own c) ≤ announcedMost
   unfolding announced
   announced-size m own c = size-both (timerReset ∷ []) (makeOf m own c) 4 61 (size-one timerReset 4 (lit≤ tt)) (make-size m own c)
 
   begun-size : (r : List ℕ) (st : Setup) → size (begunBy w r st .outs) ≤ most
   begun-size r Bad = size-none most
-  begun-size r (Total t) = size-less _ 65 most (omega arith) (announced-size _ _ _)
+  begun-size r (Total t) = size-less _ announcedMost most (omega arith) (announced-size _ _ _)
 
   on-start-size : (room : ℕ) (r : List ℕ) (st : Setup) → size (onStart w room r st .outs) ≤ most
   unfolding begun

@@ -28,18 +28,18 @@ use Rattle.trace.specs.Layout.{tcBody, tcRound, payloadOf}
 use Rattle.aggregator.specs.Tallies.{votesLength, timeoutsLength}
 use Rattle.outputs.specs.Put.{Put, Wrote}
 use Rattle.outputs.proofs.Wrote.{wrote-one, wrote-then, wrote-more}
-use Rattle.outputs.specs.Records.{timerReset, enc}
+use Rattle.outputs.specs.Records.{timerReset, enc, makeSize}
 use Rattle.moves.specs.declared.state.Core.{Core}
 use Rattle.moves.specs.declared.state.Ran.{Ran}
 use Rattle.moves.specs.State.{State, whole, withCore, withCommitted}
 use Rattle.moves.specs.Outcome.{Outcome, quiet, done, refused, Did, Reached}
-use Rattle.moves.specs.Moves.{makeOf}
+use Rattle.moves.specs.Moves.{makeOf, certifyMost}
 use Rattle.moves.proofs.Outcomes.{did-quiet, did-more}
 use Rattle.handlers.specs.Sound.{Sound}
 use Rattle.trace.proofs.LimitLaws.{loopback-limit, vote-round-le, timeout-round-le, timeout-qc-round-le, tc-event-round-le, block-round-le, block-qc-round-le, block-tc-round-le}
 use Rattle.aggregator.specs.Rows.{zeros}
 use Rattle.handlers.proofs.ProposalTheorems.{proposal-goes-on, taken-sound}
-use Rattle.handlers.specs.Votes.{handledVote, voting}
+use Rattle.handlers.specs.Votes.{handledVote, voting, votingMost}
 use Rattle.handlers.specs.Timeouts.{handledTimeout, handledTC, handledTick}
 use Rattle.handlers.specs.Proposals.{Proposal, proposalOf, Proposes}
 use Rattle.handlers.specs.declared.proposals.Proposed.{Proposed}
@@ -50,7 +50,7 @@ use Rattle.replica.specs.declared.stages.Booting.{Booting}
 use Rattle.replica.specs.declared.stages.Booting.the-variants.{NoRoom, BadSetup, Good}
 use Rattle.replica.specs.declared.stages.Stepped.{Stepped}
 use Rattle.replica.specs.Started.{membersOf, sized, startedOf, roomFor, roomy}
-use Rattle.replica.specs.Step.{newCore, newSeat, newStakes, newState, announced, startOuts}
+use Rattle.replica.specs.Step.{newCore, newSeat, newStakes, newState, announced, startOuts, announcedMost}
 use Rattle.replica.specs.Stages.{Stage, Handled, ended, alone, byProposal, handledIn, inSeat, readyIn, Filled, Boots, bootedBy, bootingOf, startedIn, isStart, isBad, bySetup, stagedOf, finishedOf, earlyBegun, ranHanded, handedBegun, firstMost, Going, Handles, Ongoing, Begins, Finishes}
 use Rattle.replica.proofs.StartedLaws.{Ready, started-ready, sized-has, members-part}
 use Rattle.replica.proofs.StepLaws.{roomy-has}
@@ -171,7 +171,7 @@ module _ (m : List ℕ) (own : ℕ) (core : Core) (votes timeouts r out : List �
       rw i (record { does = refl; answer = p .answer; did = did-more (p .did) l; going = λ (h : _≡_ {A = ℕ} 0 2). absurd (omega arith) })
 
   module _ {k : Kind} {x : Ran} {h : Handed} {votes′ timeouts′ out′ : List ℕ} (i : h ≡ ranHanded x) where
-    pub handle-vote : {v : Vote} → k ≡ Kind.Vote → v ≡ voteOf r → Reached 65 (handledVote m own (whole core votes timeouts) v) out 0 x votes′ timeouts′ out′
+    pub handle-vote : {v : Vote} → k ≡ Kind.Vote → v ≡ voteOf r → Reached certifyMost (handledVote m own (whole core votes timeouts) v) out 0 x votes′ timeouts′ out′
         → Handles (handledIn m own (whole core votes timeouts) r k) m own r out h votes′ timeouts′ out′
     handle-vote e f p = rw e (handed-ran (rw f at p) (omega arith) i)
 
@@ -196,23 +196,23 @@ module _ (m : List ℕ) (own : ℕ) (core : Core) (votes timeouts r out : List �
 
 module _ (m : List ℕ) (own : ℕ) (core : Core) (votes timeouts : List ℕ) (b : Block) (first : ℕ) (seat : Seat) (does answer last : ℕ) where
   pub finish-votes : {at : ℕ} {out votes′ timeouts′ out′ : List ℕ} {x : Stepped} → does ≡ 2 → answer ≡ 0
-      → Finishes (voting m own b (whole (withCommitted core last) votes timeouts)) 111 seat out at x votes′ timeouts′ out′
-      → Finishes (finishedOf m own (whole core votes timeouts) does first answer last b) 111 seat out at x votes′ timeouts′ out′
+      → Finishes (voting m own b (whole (withCommitted core last) votes timeouts)) votingMost seat out at x votes′ timeouts′ out′
+      → Finishes (finishedOf m own (whole core votes timeouts) does first answer last b) votingMost seat out at x votes′ timeouts′ out′
   unfolding finishedOf
   finish-votes e f p = rw (e, f) p
 
   pub finish-refused : {at : ℕ} {out : List ℕ} → does ≡ 2 → (answer ≡ 0 → ⊥)
-      → Finishes (finishedOf m own (whole core votes timeouts) does first answer last b) 111 seat out at
+      → Finishes (finishedOf m own (whole core votes timeouts) does first answer last b) votingMost seat out at
       (record { answer = answer; seat = seat; core = withCommitted core last; written = at }) votes timeouts out
   unfolding finishedOf
   finish-refused {at} {out} e f =
-      rw (e, ne-eqb _ _ f) (record { answer = refl; sits = refl; did = did-quiet 111 (withCommitted core last) votes timeouts out at })
+      rw (e, ne-eqb _ _ f) (record { answer = refl; sits = refl; did = did-quiet votingMost (withCommitted core last) votes timeouts out at })
 
   pub finish-ended : {at : ℕ} {out : List ℕ} → (does ≡ 2 → ⊥)
-      → Finishes (finishedOf m own (whole core votes timeouts) does first answer last b) 111 seat out at
+      → Finishes (finishedOf m own (whole core votes timeouts) does first answer last b) votingMost seat out at
       (record { answer = first; seat = seat; core = core; written = at }) votes timeouts out
   unfolding finishedOf
-  finish-ended {at} {out} e = rw (ne-eqb _ _ e) (record { answer = refl; sits = refl; did = did-quiet 111 core votes timeouts out at })
+  finish-ended {at} {out} e = rw (ne-eqb _ _ e) (record { answer = refl; sits = refl; did = did-quiet votingMost core votes timeouts out at })
 
 -- ---- a proposal
 
@@ -270,7 +270,7 @@ module _ (m : List ℕ) (own : ℕ) (core : Core) (votes timeouts r out : List �
 
 -- TIMER RESET, and what the own place is asked to make
 pub announce-wrote : (m : List ℕ) (own : ℕ) (core : Core) {out out₁ out₂ : List ℕ} {a next : ℕ} → Put out 0 4 (enc timerReset) out₁ a
-    → Wrote 61 (makeOf m own core) out₁ a out₂ next → Wrote 65 (announced m own core) out 0 out₂ next
+    → Wrote makeSize (makeOf m own core) out₁ a out₂ next → Wrote announcedMost (announced m own core) out 0 out₂ next
 unfolding announced
 announce-wrote m own core p w = wrote-then (wrote-one timerReset p) w
 
@@ -288,7 +288,7 @@ module _ (seat : Seat) (stakes : List ℕ) (core : Core) (votes timeouts r out :
   pub boots : {stakes′ votes′ timeouts′ out′ : List ℕ} {at : ℕ} {taken : Seat} {fresh : Core}
       → Boots r (length stakes) (length votes) (length timeouts) (length out) total → taken ≡ newSeat r
       → Filled r stakes votes timeouts stakes′ votes′ timeouts′ → fresh ≡ newCore
-      → Wrote 65 (announced (take (taken .count - 0) (drop 0 stakes′)) (taken .own .0) fresh) out 0 out′ at
+      → Wrote announcedMost (announced (take (taken .count - 0) (drop 0 stakes′)) (taken .own .0) fresh) out 0 out′ at
       → Begins (bootedBy seat stakes (whole core votes timeouts) r (Total total)) true r out
       (record { seat = taken; answer = 0; core = fresh; at = at; does = 1; need = record { 0 = 0 } }) stakes′ votes′ timeouts′ out′
   unfolding newStakes
@@ -398,7 +398,7 @@ module _ {m votes timeouts : List ℕ} {own need : ℕ} (r : List ℕ) (out : �
   propose-needs e l = (q, rw e (block-qc-round-le r l), rw e (block-tc-round-le r l), s .long, s .wide, omega arith)
 
   module _ {k : Kind} (l : limitOf r k ≡ 0) where
-    pub vote-needs : {v : Vote} → k ≡ Kind.Vote → v ≡ voteOf r → Sound m own votes timeouts × (need ≡ quorumOf m) × (v .round .0 ≤ roundMax) × (65 ≤ out)
+    pub vote-needs : {v : Vote} → k ≡ Kind.Vote → v ≡ voteOf r → Sound m own votes timeouts × (need ≡ quorumOf m) × (v .round .0 ≤ roundMax) × (certifyMost ≤ out)
     vote-needs e f = (s, q, rw f (vote-round-le r (rw e at l)), omega arith)
 
     pub timeout-needs : {t : Timeout} → k ≡ Kind.Timeout → t ≡ timeoutOf r
@@ -414,9 +414,9 @@ module _ {m votes timeouts : List ℕ} {own need : ℕ} (r : List ℕ) (out : �
 -- ---- the vote for a block that the table took
 
 module _ (b : Begun) (r stakes : List ℕ) {votes timeouts : List ℕ} (o : Ongoing b r stakes votes timeouts) {k : Block} (e : k ≡ blockOf r) where
-  pub conclude-needs : (at : ℕ) {out : ℕ} → at + 111 ≤ out
+  pub conclude-needs : (at : ℕ) {out : ℕ} → at + votingMost ≤ out
       → Sound (take (b .seat .count - 0) (drop 0 stakes)) (b .seat .own .0) votes timeouts × (b .need .0 ≡ quorumOf (take (b .seat .count - 0) (drop 0 stakes)))
-      × (k .round .0 ≤ roundMax) × (k .«qc_round» .0 ≤ roundMax) × (k .«tc_round» .0 ≤ roundMax) × (at + 111 ≤ out)
+      × (k .round .0 ≤ roundMax) × (k .«qc_round» .0 ≤ roundMax) × (k .«tc_round» .0 ≤ roundMax) × (at + votingMost ≤ out)
   conclude-needs at h =
       (rw (members-part (b .seat) stakes) (o .going .sound), rw (members-part (b .seat) stakes) (o .need), rw e (o .going .round), rw e (o .going .qcRound), rw e (o .going .tcRound), h)
 
@@ -424,8 +424,8 @@ module _ (b : Begun) (r stakes : List ℕ) {votes timeouts : List ℕ} (o : Ongo
   conclude-fits = o .few
 
   pub concludes : (core : Core) {at : ℕ} {out votes′ timeouts′ out′ : List ℕ} {x : Ran}
-      → Reached 111 (voting (take (b .seat .count - 0) (drop 0 stakes)) (b .seat .own .0) k (whole core votes timeouts)) out at x votes′ timeouts′ out′
-      → Finishes (voting (membersOf (b .seat) stakes) (b .seat .own .0) (blockOf r) (whole core votes timeouts)) 111 (b .seat) out at
+      → Reached votingMost (voting (take (b .seat .count - 0) (drop 0 stakes)) (b .seat .own .0) k (whole core votes timeouts)) out at x votes′ timeouts′ out′
+      → Finishes (voting (membersOf (b .seat) stakes) (b .seat .own .0) (blockOf r) (whole core votes timeouts)) votingMost (b .seat) out at
       (record { answer = x .answer; seat = b .seat; core = x .core; written = x .at }) votes′ timeouts′ out′
   concludes core p = let q = rw (members-part (b .seat) stakes, e) at p in record { answer = q .answer; sits = refl; did = q .did }
 

@@ -8,6 +8,7 @@ use native.Mathlib.Omega.{arith}
 use borrow.Author.Tests.{ne-eqb, eqb-true, eqb-false, leb-true}
 use lib.Dec.{eqb, ltb, leb}
 use lib.ListN.{length, drop}
+use Rattle.handlers.specs.Votes.{votingMost}
 use Rattle.certificates.specs.declared.numbers.Round.{Round}
 use Rattle.trace.specs.declared.events.Block.{Block}
 use Rattle.trace.specs.Fields.{blockOf}
@@ -115,7 +116,7 @@ module _ (seat : Seat) (stakes : List ℕ) (core : Core) (votes timeouts : List 
     long₂ : length out₂ ≡ length out₁
     long₂ = wrote-length (q .bytes)
 
-    finish-fits : b .does ≡ 2 → Ongoing b r stakes′ votes′ timeouts′ × (s .at + 111 ≤ length out₂)
+    finish-fits : b .does ≡ 2 → Ongoing b r stakes′ votes′ timeouts′ × (s .at + votingMost ≤ length out₂)
     finish-fits d =
         let k = p .going d in
         (k .1, omega (arith, at-w, long₁, long₂, n, roomy-has slots (length out) (k .0), k .1 .going .short, q .bytes .room))
@@ -156,7 +157,7 @@ module _ (seat : Seat) (stakes : List ℕ) (core : Core) (votes timeouts : List 
         let empty : length (encAll []) ≡ 0 = ap length all-none in
         omega (arith, same, empty, at-w, p .fits)
 
-    module _ {x : Stepped} {votes″ timeouts″ out₃ : List ℕ} (f : Finishes finished 111 (b .seat) out₂ (s .at) x votes″ timeouts″ out₃) where
+    module _ {x : Stepped} {votes″ timeouts″ out₃ : List ℕ} (f : Finishes finished votingMost (b .seat) out₂ (s .at) x votes″ timeouts″ out₃) where
       fits-by : (z : Bool) → eqb (b .does) 2 ≡ z → x .written ≤ length out
       unfolding finishedOf
       fits-by true e = omega (arith, finish-fits (eqb-true (b .does) 2 e) .1, long₁, long₂, f .did .bytes .room)
@@ -171,7 +172,7 @@ module _ (seat : Seat) (stakes : List ℕ) (core : Core) (votes timeouts : List 
       abbrev outs : List Rec
       outs = g .out .left .outs ++ (settlement .outs ++ finishing .left .outs)
 
-      all-written : Wrote (firstMost + (settleMost (length table) + 111)) outs out 0 out₃ (x .written)
+      all-written : Wrote (firstMost + (settleMost (length table) + votingMost)) outs out 0 out₃ (x .written)
       all-written = wrote-then (p .did .bytes) (wrote-then (rw at-w at (rw settled-g at (q .bytes))) (rw same-finished at (f .did .bytes)))
 
       -- "outputs always fit 44*slots+2,048 bytes": 1,433 before the table, 112 and the COMMITs at it, 111 after it

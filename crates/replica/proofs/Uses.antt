@@ -23,6 +23,7 @@ use denote.Builtin.{u8, u32, u64, usize}
 use denote.Slice.{sliceVal}
 use denote.Triple.Statement.{Contract, Triple}
 use denote.Triple.Spec.{tripleOf}
+use Rattle.handlers.specs.Votes.{votingMost}
 use Rattle.trace.specs.Fields.{blockOf}
 use Rattle.moves.specs.declared.state.Core.{Core}
 use Rattle.moves.specs.State.{whole}
@@ -120,7 +121,7 @@ module _ {M : Type 1} (𝓤 : URA M) (H : Heap 𝓤) (A : Atoms 𝓤) (mem : Mem
         → (b₅ o₅ m₅ : ℕ) (xs : List ℕ) {e₅ : Item 𝓤} → AsShr 𝓤 H A u8 b₅ o₅ m₅ xs e₅
         → (d : Order) (d-val : Val) → Is order d (d-val ∷ []) → (g : Begun) (g-val : Val) → Is begun g (g-val ∷ []) → (s : Settled) (s-val : Val) → Is settled s (s-val ∷ []) → Finishable g s (recordIn d xs) ks vs ts (length zs)
         → Gives 𝓤 H A (𝓣 .C) #replica·step·finish-in (sliceVal (b₁, o₁) m₁ ∷ sliceVal (b₂, o₂) m₂ ∷ sliceVal (b₃, o₃) m₃ ∷ sliceVal (b₄, o₄) m₄ ∷ sliceVal (b₅, o₅) m₅ ∷ d-val ∷ g-val ∷ s-val ∷ []) (e₁ ⊛ (e₂ ⊛ (e₃ ⊛ (e₄ ⊛ e₅))))
-        (λ z (x : Stepped × (Unit {0} × (List ℕ × (List ℕ × (List ℕ × (Unit {0} × Nones 3)))))). Finishes (finishedBy g s (recordIn d xs) ks vs ts) 111 (g .seat) zs (s .at) (x .0) (x .1 .1 .0) (x .1 .1 .1 .0) (x .1 .1 .1 .1 .0)
+        (λ z (x : Stepped × (Unit {0} × (List ℕ × (List ℕ × (List ℕ × (Unit {0} × Nones 3)))))). Finishes (finishedBy g s (recordIn d xs) ks vs ts) votingMost (g .seat) zs (s .at) (x .0) (x .1 .1 .0) (x .1 .1 .1 .0) (x .1 .1 .1 .1 .0)
         × ((Unit {0} × ((length (x .1 .1 .0) ≡ m₂) × ((length (x .1 .1 .1 .0) ≡ m₃) × ((length (x .1 .1 .1 .1 .0) ≡ m₄) × Unit {0})))) × Is stepped (x .0) (z ∷ [])))
         (λ x. e₁ ⊛ (after₂ (x .1 .1 .0) ⊛ (after₃ (x .1 .1 .1 .0) ⊛ (after₄ (x .1 .1 .1 .1 .0) ⊛ e₅))))
     finish-in-use known b₁ o₁ m₁ ks L₁ b₂ o₂ m₂ vs L₂ b₃ o₃ m₃ ts L₃ b₄ o₄ m₄ zs L₄ b₅ o₅ m₅ xs L₅ d d-val d-is g g-val g-is s s-val s-is pre =
@@ -128,7 +129,7 @@ module _ {M : Type 1} (𝓤 : URA M) (H : Heap 𝓤) (A : Atoms 𝓤) (mem : Mem
         (order ∷ begun ∷ settled ∷ []) (order-makes 𝓤 H A, (begun-makes 𝓤 H A, (settled-makes 𝓤 H A, tt))) (d, (g, (s, tt))) (d-val ∷ [], (g-val ∷ [], (s-val ∷ [], tt))) (d-is, (g-is, (s-is, tt))) stepped (fact 𝓤 (Finishable g s (recordIn d xs) ks vs ts (length zs))) (factI 𝓤 (Finishable g s (recordIn d xs) ks vs ts (length zs)) (emp 𝓤) pre)
         (and-loan 𝓤 H A W L₁ (and-loan 𝓤 H A W L₂ (and-loan 𝓤 H A W L₃ (and-loan 𝓤 H A W L₄ (one-loan 𝓤 H A W L₅ 3 (owns (order ∷ begun ∷ settled ∷ []) (d, (g, (s, tt))) (d-val ∷ [], (g-val ∷ [], (s-val ∷ [], tt))))
         (owns-make 𝓤 H A (order ∷ begun ∷ settled ∷ []) (Ises (order ∷ begun ∷ settled ∷ [])) (order-makes 𝓤 H A, (begun-makes 𝓤 H A, (settled-makes 𝓤 H A, tt))) (d, (g, (s, tt))) (d-val ∷ [], (g-val ∷ [], (s-val ∷ [], tt))) (d-is, (g-is, (s-is, tt)))))))))
-        (λ r l. Finishes (finishedBy g s (recordIn d xs) ks vs ts) 111 (g .seat) zs (s .at) r (l .1 .0) (l .1 .1 .0) (l .1 .1 .1 .0))
+        (λ r l. Finishes (finishedBy g s (recordIn d xs) ks vs ts) votingMost (g .seat) zs (s .at) r (l .1 .0) (l .1 .1 .0) (l .1 .1 .1 .0))
         (λ p. known (
           (
             (L₁ .lft (p .0), (L₂ .lft (p .1 .0), (L₃ .lft (p .1 .1 .0), (L₄ .lft (p .1 .1 .1 .0), (L₅ .lft (p .1 .1 .1 .1), tt))))),

@@ -30,7 +30,7 @@ use Rattle.moves.specs.declared.state.Ran.{Ran}
 use Rattle.moves.specs.State.{State, whole, withCore, withCommitted}
 use Rattle.moves.specs.Outcome.{Outcome, quiet, done, refused, Did}
 use Rattle.handlers.specs.Sound.{Sound}
-use Rattle.handlers.specs.Votes.{handledVote, voting}
+use Rattle.handlers.specs.Votes.{handledVote, voting, votingMost}
 use Rattle.handlers.specs.Timeouts.{handledTimeout, handledTC, handledTick}
 use Rattle.handlers.specs.Proposals.{Proposal, proposalOf}
 use Rattle.certificates.specs.Numbers.{zeroHash}
@@ -46,7 +46,7 @@ use Rattle.replica.specs.declared.stages.Booting.the-variants.{NoRoom, B
 use Rattle.replica.specs.declared.stages.Stepped.{Stepped}
 use Rattle.replica.specs.Started.{membersOf, startedOf, sized, roomy}
 use Rattle.replica.specs.Blocks.{workFor}
-use Rattle.replica.specs.Step.{Result, newSeat, newStakes, newState, startOuts}
+use Rattle.replica.specs.Step.{Result, newSeat, newStakes, newState, startOuts, announcedMost}
 
 pub record Stage : Type 0 where
   pub does : ℕ
@@ -202,7 +202,7 @@ pub record Filled (r stakes votes timeouts stakes′ votes′ timeouts′ : List
 pub record Boots (r : List ℕ) (stakes votes timeouts out : ℕ) (total : Stake) : Type 0 where
   pub sizes : sized stakes votes timeouts ≡ true
   pub setup : setupAt (drop 2 r) ≡ Setup.Total total
-  pub room : 65 ≤ out
+  pub room : announcedMost ≤ out
 
 -- what goes by value, as code makes it
 abbrev pub earlyBegun : Seat → Core → ℕ → Begun
@@ -249,7 +249,7 @@ pub record Begins (g : Stage) (room : Bool) (r before : List ℕ) (b : Begun) (s
 -- what the last part asks for, where there is a block
 pub record Finishable (b : Begun) (s : Settled) (r stakes votes timeouts : List ℕ) (out : ℕ) : Type 0 where
   pub going : b .does ≡ 2 → Ongoing b r stakes votes timeouts
-  pub room : b .does ≡ 2 → s .at + 111 ≤ out
+  pub room : b .does ≡ 2 → s .at + votingMost ≤ out
 
 pub record Finishes (o : Outcome) (k : ℕ) (seat : Seat) (before : List ℕ) (at : ℕ) (r : Stepped) (votes timeouts after : List ℕ) : Type 0 where
   pub answer : r .answer ≡ o .answer

@@ -2,6 +2,7 @@
 --     membersOf seat stakes           the committee: the first `count` stakes
 --     sized, shaped                   memory of the sizes that a replica has; count and own place within the limits
 --     startedOf seat stakes v t       the total stake, where the record counts as started
+--     slotsMax, roomBesides              the most slots of a table; the bytes of output besides COMMITs
 --     roomFor slots, roomy slots room    a table of 1 to 1,024 slots, and room for the output
 use Prim.Native.Nat.{ℕ, _+_, _*_}
 use mathlib.Core.Bool.{Bool, false, cond}
@@ -44,8 +45,11 @@ startedOf seat stakes votes timeouts =
 abbrev pub slotsMax : ℕ
 slotsMax = 1024
 
+abbrev pub roomBesides : ℕ
+roomBesides = 2048
+
 abbrev pub roomFor : ℕ → ℕ
-roomFor slots = commitSize * slots + 2048
+roomFor slots = commitSize * slots + roomBesides
 
 unfoldable pub roomy : ℕ → ℕ → Bool
 roomy slots room = cond (eqb slots 0) false (cond (ltb slotsMax slots) false (leb (roomFor slots) room))

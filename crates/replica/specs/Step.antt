@@ -22,7 +22,7 @@ use Rattle.trace.specs.Form.{formOf}
 use Rattle.trace.specs.Limits.{limitOf}
 use Rattle.trace.specs.Fields.{voteOf, timeoutOf, blockOf}
 use Rattle.trace.specs.Layout.{tcBody, tcRound, payloadOf}
-use Rattle.outputs.specs.Records.{Rec, timerReset, encAll}
+use Rattle.outputs.specs.Records.{Rec, timerReset, encAll, timerResetSize, makeSize}
 use Rattle.aggregator.specs.Tallies.{votesLength, timeoutsLength}
 use Rattle.synchronizer.specs.declared.table.Slot.{Slot}
 use Rattle.synchronizer.specs.Table.{cleared}
@@ -87,6 +87,9 @@ newStakes r = loadedStakes membersMax (drop 2 r)
 -- "TIMER RESET; MAKE without TC if own place leads round 1."
 unfoldable pub announced : List ℕ → ℕ → Core → List Rec
 announced m own c = timerReset ∷ makeOf m own c
+
+abbrev pub announcedMost : ℕ
+announcedMost = timerResetSize + makeSize
 
 abbrev pub startOuts : List ℕ → List Rec
 startOuts r = announced (membersOf (newSeat r) (newStakes r)) (newSeat r .own .0) newCore

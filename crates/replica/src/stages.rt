@@ -58,10 +58,10 @@ ghost use Rattle.trace.specs.Fields.{blockOf};
 ghost use Rattle.outputs.specs.Put.{Wrote};
 ghost use Rattle.moves.specs.State.{whole};
 ghost use Rattle.handlers.specs.Sound.{Sound};
-ghost use Rattle.handlers.specs.Votes.{voting};
+ghost use Rattle.handlers.specs.Votes.{voting, votingMost};
 ghost use Rattle.replica.specs.Started.{membersOf, sized, startedOf, roomy};
 ghost use Rattle.replica.specs.Blocks.{slotFor};
-ghost use Rattle.replica.specs.Step.{newCore, newSeat, announced};
+ghost use Rattle.replica.specs.Step.{newCore, newSeat, announced, announcedMost};
 ghost use Rattle.replica.specs.Stages.{handledIn, readyIn, Filled, Boots, bootedBy, bootingOf, startedIn, isStart, isBad, stagedOf, finishedOf, noSlot, workAt, earlyBegun, ranHanded, handedBegun, firstMost, Handles, Begins, Ongoing, Finishable, Finishes};
 
 // What a handler leaves, and what is to be done with the table: 0 nothing, 2 the record's block.
@@ -157,8 +157,8 @@ fn new_core() -> Core
 
 // TIMER RESET; MAKE without TC if the own place leads round 1.
 fn announce(members: &[u32], own: Place, core: Core, out: &mut [u8]) -> usize
-    requires { ⌜ 65 ≤ length (now out) ⌝ }
-    ensures { λ r. ⌜ Wrote 65 (announced (now (members .entry)) (own .0) core) (now (out .entry)) 0 (now (out .exit)) r ⌝ }
+    requires { ⌜ announcedMost ≤ length (now out) ⌝ }
+    ensures { λ r. ⌜ Wrote announcedMost (announced (now (members .entry)) (own .0) core) (now (out .entry)) 0 (now (out .exit)) r ⌝ }
 {
     let a = put_timer_reset(out, 0);
     generate_proposal(members, own, core, out, a)
@@ -548,8 +548,8 @@ fn conclude(
     core: Core,
     at: usize,
 ) -> Stepped
-    requires { ⌜ Ongoing b (now input) (now stakes) (now votes) (now timeouts) × (at + 111 ≤ length (now out)) ⌝ }
-    ensures { λ r. ⌜ Finishes (voting (membersOf (b .seat) (now (stakes .entry))) (b .seat .own .0) (blockOf (now (input .entry))) (whole core (now (votes .entry)) (now (timeouts .entry)))) 111 (b .seat) (now (out .entry)) at r (now (votes .exit)) (now (timeouts .exit)) (now (out .exit)) ⌝ }
+    requires { ⌜ Ongoing b (now input) (now stakes) (now votes) (now timeouts) × (at + votingMost ≤ length (now out)) ⌝ }
+    ensures { λ r. ⌜ Finishes (voting (membersOf (b .seat) (now (stakes .entry))) (b .seat .own .0) (blockOf (now (input .entry))) (whole core (now (votes .entry)) (now (timeouts .entry)))) votingMost (b .seat) (now (out .entry)) at r (now (votes .exit)) (now (timeouts .exit)) (now (out .exit)) ⌝ }
 {
     let seat = b.seat;
     let n = seat.count as usize;
@@ -585,7 +585,7 @@ pub fn finish(
     s: Settled,
 ) -> Stepped
     requires { ⌜ Finishable b s (now input) (now stakes) (now votes) (now timeouts) (length (now out)) ⌝ }
-    ensures { λ r. ⌜ Finishes (finishedOf (membersOf (b .seat) (now (stakes .entry))) (b .seat .own .0) (whole (b .core) (now (votes .entry)) (now (timeouts .entry))) (b .does) (b .answer) (s .answer) (s .last .0) (blockOf (now (input .entry)))) 111 (b .seat) (now (out .entry)) (s .at) r (now (votes .exit)) (now (timeouts .exit)) (now (out .exit)) ⌝ }
+    ensures { λ r. ⌜ Finishes (finishedOf (membersOf (b .seat) (now (stakes .entry))) (b .seat .own .0) (whole (b .core) (now (votes .entry)) (now (timeouts .entry))) (b .does) (b .answer) (s .answer) (s .last .0) (blockOf (now (input .entry)))) votingMost (b .seat) (now (out .entry)) (s .at) r (now (votes .exit)) (now (timeouts .exit)) (now (out .exit)) ⌝ }
 {
     let seat = b.seat;
     let core = b.core;

@@ -15,6 +15,7 @@ use trace::part::middle;
 ghost use mathlib.Core.Path.{_≡_};
 ghost use Prim.Native.Nat.{_≤_};
 ghost use lib.ListN.{length};
+ghost use Rattle.handlers.specs.Votes.{votingMost};
 ghost use Rattle.trace.specs.Fields.{blockOf};
 ghost use Rattle.moves.specs.State.{whole};
 ghost use Rattle.replica.specs.Started.{membersOf, roomFor, roomy};
@@ -80,7 +81,7 @@ pub(crate) fn finish_in(
     s: Settled,
 ) -> Stepped
     requires { ⌜ Finishable b s (recordIn order (now input)) (now stakes) (now votes) (now timeouts) (length (now out)) ⌝ }
-    ensures { λ r. ⌜ Finishes (finishedOf (membersOf (b .seat) (now (stakes .entry))) (b .seat .own .0) (whole (b .core) (now (votes .entry)) (now (timeouts .entry))) (b .does) (b .answer) (s .answer) (s .last .0) (blockOf (recordIn order (now (input .entry))))) 111 (b .seat) (now (out .entry)) (s .at) r (now (votes .exit)) (now (timeouts .exit)) (now (out .exit)) ⌝ }
+    ensures { λ r. ⌜ Finishes (finishedOf (membersOf (b .seat) (now (stakes .entry))) (b .seat .own .0) (whole (b .core) (now (votes .entry)) (now (timeouts .entry))) (b .does) (b .answer) (s .answer) (s .last .0) (blockOf (recordIn order (now (input .entry))))) votingMost (b .seat) (now (out .entry)) (s .at) r (now (votes .exit)) (now (timeouts .exit)) (now (out .exit)) ⌝ }
 {
     let part = middle(input, order.from, order.to);
     finish(stakes, votes, timeouts, out, part, b, s)

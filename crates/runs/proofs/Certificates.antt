@@ -21,7 +21,7 @@ use lib.Seq.{take-length}
 use Rattle.certificates.specs.declared.numbers.Signers.{Signers}
 use Rattle.certificates.specs.declared.messages.QC.{QC}
 use Rattle.certificates.specs.declared.messages.Checked.the-variants.{Accepted}
-use Rattle.certificates.specs.Config.{quorumOf}
+use Rattle.certificates.specs.Config.{membersMax, quorumOf}
 use Rattle.certificates.specs.Num.{le, numAt, hashAt, numsAt}
 use Rattle.certificates.specs.Signers.{bitOf, isIn, words, noSigners, withSigner, signersFrom, signersOf, member}
 use Rattle.certificates.specs.Messages.{Form, qcForm, tcForm, isGenesis, verdictIn, countOf, placesIn, checkPart, qcCheck, equalsGenesis}
@@ -115,11 +115,11 @@ places-under (suc k) p w q h =
 -- a set names whom the places of its word name
 pub word-bits : (s : Signers) (q : ℕ) → isIn (words s) q ≡ cond (member q (placesOf (s .0))) 1 0
 unfolding isIn placesOf
-word-bits s q = cases (ltb q 64) refl
+word-bits s q = cases (ltb q membersMax) refl
   where
-    cases : (b : Bool) → ltb q 64 ≡ b → cond b (bitOf (s .0) q) 0 ≡ cond (member q (placesFrom 64 0 (s .0))) 1 0
-    cases true e = rw zero-add at (places-bits 64 0 (s .0) q (ltb-true q 64 e))
-    cases false e = rw (places-under 64 0 (s .0) q (omega (arith, ltb-false q 64 e)))
+    cases : (b : Bool) → ltb q membersMax ≡ b → cond b (bitOf (s .0) q) 0 ≡ cond (member q (placesFrom membersMax 0 (s .0))) 1 0
+    cases true e = rw zero-add at (places-bits membersMax 0 (s .0) q (ltb-true q membersMax e))
+    cases false e = rw (places-under membersMax 0 (s .0) q (omega (arith, ltb-false q membersMax e)))
 
 set-one : (b : Bool) → b ≡ true → _≡_ {A = ℕ} (cond b 1 0) 1
 set-one b e = rw e
@@ -129,7 +129,7 @@ quorate-distinct : (m : List ℕ) (s : Signers) → Quorate m s → Distinct m (
 unfolding placesOf
 quorate-distinct m s k =
     record {
-      distinct = λ i j l h e. omega (arith, rises-distinct 0 (placesOf (s .0)) i j (places-rise 64 0 (s .0)) l h);
+      distinct = λ i j l h e. omega (arith, rises-distinct 0 (placesOf (s .0)) i j (places-rise membersMax 0 (s .0)) l h);
       known = λ j h.
           let p = getD (placesOf (s .0)) j 0 in
           let n = length (placesOf (s .0)) in
@@ -176,14 +176,14 @@ twos-length (p ∷ ps) = rw (length-append, length-digits 2 p) (omega (arith, tw
 -- the places of a word fit two bytes
 places-small : (w : ℕ) → Small (placesOf w)
 unfolding placesOf Small
-places-small w i h = omega (arith, below (ltb 64 (getD (placesFrom 64 0 w) i 0)) refl)
+places-small w i h = omega (arith, below (ltb membersMax (getD (placesFrom membersMax 0 w) i 0)) refl)
   where
-    below : (b : Bool) → ltb 64 (getD (placesFrom 64 0 w) i 0) ≡ b → getD (placesFrom 64 0 w) i 0 ≤ 64
+    below : (b : Bool) → ltb membersMax (getD (placesFrom membersMax 0 w) i 0) ≡ b → getD (placesFrom membersMax 0 w) i 0 ≤ membersMax
     below false e = ltb-false _ _ e
     below true e =
-        let p = getD (placesFrom 64 0 w) i 0 in
-        let there : member p (placesFrom 64 0 w) ≡ true = rw take-length at (member-take p (placesFrom 64 0 w) (length (placesFrom 64 0 w)) i h h refl) in
-        let none : member p (placesFrom 64 0 w) ≡ false = places-under 64 0 w p (omega (arith, ltb-true 64 p e)) in
+        let p = getD (placesFrom membersMax 0 w) i 0 in
+        let there : member p (placesFrom membersMax 0 w) ≡ true = rw take-length at (member-take p (placesFrom membersMax 0 w) (length (placesFrom membersMax 0 w)) i h h refl) in
+        let none : member p (placesFrom membersMax 0 w) ≡ false = places-under membersMax 0 w p (omega (arith, ltb-true membersMax p e)) in
         let z : _≡_ {A = Bool} true false = sym there ∙ none in
         let y : _≡_ {A = ℕ} 0 1 = cc in
         absurd (omega arith)
@@ -198,11 +198,11 @@ word-same (suc k) a b h l e =
     let low : a % 2 ≡ b % 2 = e 0 (omega arith) in
     omega arith
 
-pub signers-word : (s : Signers) (ps : List ℕ) → s .0 < 2 ^ 64 → ((j : ℕ) → j < length ps → getD ps j 0 < 64) → signersFrom s ps .0 < 2 ^ 64
+pub signers-word : (s : Signers) (ps : List ℕ) → s .0 < 2 ^ membersMax → ((j : ℕ) → j < length ps → getD ps j 0 < membersMax) → signersFrom s ps .0 < 2 ^ membersMax
 unfolding signersFrom
 signers-word s [] h a = h
 signers-word s (p ∷ ps) h a =
-    signers-word (withSigner s p) ps (or-lt 64 (s .0) (2 ^ p) h (pow-lt (a 0 (omega arith)))) (λ j l. a (suc j) (omega arith))
+    signers-word (withSigner s p) ps (or-lt membersMax (s .0) (2 ^ p) h (pow-lt (a 0 (omega arith)))) (λ j l. a (suc j) (omega arith))
 
 same-signers : (f : Form) (m part : List ℕ) (s : Signers) → Quorate m s → placesIn f part ≡ placesOf (s .0)
     → checkPart f m (quorumOf m) part ≡ Accepted (signersOf (placesIn f part)) → checkPart f m (quorumOf m) part ≡ Accepted s
@@ -210,10 +210,10 @@ unfolding signersOf
 same-signers f m part s k e h =
     let t = signersOf (placesIn f part) in
     let c = certified f m (quorumOf m) part t h in
-    let word : t .0 < 2 ^ 64 = signers-word noSigners (placesIn f part) (lit< tt) (λ j l. walked-distinct m (placesIn f part) (c .walked) .known j l .small) in
-    let bits : (p : ℕ) → p < 64 → bitOf (t .0) p ≡ bitOf (s .0) p = λ p l.
+    let word : t .0 < 2 ^ membersMax = signers-word noSigners (placesIn f part) (lit< tt) (λ j l. walked-distinct m (placesIn f part) (c .walked) .known j l .small) in
+    let bits : (p : ℕ) → p < membersMax → bitOf (t .0) p ≡ bitOf (s .0) p = λ p l.
     sym (in-low (t .0) [] p l) ∙ c .clean .bits p ∙ ap (λ (ps : List ℕ). cond (member p ps) 1 0) e ∙ sym (word-bits s p) ∙ in-low (s .0) [] p l in
-    h ∙ ap Accepted (ap (λ (x : ℕ). record { 0 = x }) (word-same 64 (t .0) (s .0) word (k .word) bits))
+    h ∙ ap Accepted (ap (λ (x : ℕ). record { 0 = x }) (word-same membersMax (t .0) (s .0) word (k .word) bits))
 
 -- ---- a certificate of a quorum is accepted, whatever stands before its result
 
@@ -222,14 +222,14 @@ count s = length (placesOf (s .0))
 
 count-ones : (m : List ℕ) (s : Signers) → Quorate m s → ones (s .0) ≡ count s
 unfolding placesOf
-count-ones m s k = sym (length-places 64 0 (s .0) (k .word))
+count-ones m s k = sym (length-places membersMax 0 (s .0) (k .word))
 
 module _ (f : Form) (m : List ℕ) (s : Signers) (k : Quorate m s) (front list : List ℕ) where
   module _ {part : List ℕ} (is : part ≡ front ++ (digits 1 1 ++ (digits 2 (count s) ++ list))) (at-front : length front ≡ f .at) (size : length list ≡ f .stride * count s)
       (listed : numsAt 2 (f .stride) (count s) ((front ++ (digits 1 1 ++ digits 2 (count s))) ++ list) (f .at + 3) ≡ placesOf (s .0)) where
-    few : count s ≤ 64
+    few : count s ≤ membersMax
     unfolding placesOf
-    few = places-most 64 0 (s .0)
+    few = places-most membersMax 0 (s .0)
 
     verdict-yes : verdictIn f part ≡ 1
     unfolding verdictIn

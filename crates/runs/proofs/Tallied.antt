@@ -20,7 +20,7 @@ use lib.Dec.{ltb, lit<}
 use lib.ListN.{length}
 use lib.Pow.{pow-lt}
 use Rattle.certificates.specs.declared.numbers.Signers.{Signers}
-use Rattle.certificates.specs.Config.{sum, stakeOf, quorumFrom, quorumOf}
+use Rattle.certificates.specs.Config.{sum, stakeOf, quorumFrom, quorumOf, membersMax}
 use Rattle.certificates.specs.Signers as signed
 use Rattle.certificates.specs.Signers.{isIn, words}
 use Rattle.certificates.proofs.ConfigLaws.{quorum-pos}
@@ -35,7 +35,7 @@ use Rattle.aggregator.proofs.TableLaws.{Each}
 pub record Quorate (m : List ℕ) (s : Signers) : Type 0 where
   pub members : (p : ℕ) → isIn (words s) p ≡ 1 → Known m p
   pub quorum : quorumOf m ≤ signed.weightOf m s
-  pub word : s .0 < 2 ^ 64
+  pub word : s .0 < 2 ^ membersMax
 
 -- the stake of names
 abbrev pub held : List ℕ → ℕ → ℕ
@@ -44,7 +44,7 @@ held m names = signed.weightOf m (signers names)
 pub record Counts (m : List ℕ) (names weight : ℕ) : Type 0 where
   -- its names are members with stake
   pub members : (p : ℕ) → isIn (words (signers names)) p ≡ 1 → Known m p
-  pub word : names < 2 ^ 64
+  pub word : names < 2 ^ membersMax
   -- below the quorum its weight is their stake
   pub unspent : held m names < quorumOf m → weight ≡ held m names
   -- from the quorum on it is the stake of those only that came after its certificate
@@ -90,8 +90,8 @@ module _ (m : List ℕ) {names weight : ℕ} (k : Counts m names weight) where
     more-members q e =
         by-cases (ℕ-discrete q p) (λ s. rw s who) (λ n. k .members q (sym (signer-other (signers names) p (who .small) q n) ∙ e))
 
-    more-word : withName names p < 2 ^ 64
-    more-word = or-lt 64 names (2 ^ p) (k .word) (pow-lt (who .small))
+    more-word : withName names p < 2 ^ membersMax
+    more-word = or-lt membersMax names (2 ^ p) (k .word) (pow-lt (who .small))
 
     -- what it gives out: its names, and the author's, are a quorum
     pub counts-full : quorumOf m ≤ weight + stakeOf m p → Quorate m (signers (withName names p))
