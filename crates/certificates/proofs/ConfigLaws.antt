@@ -1,13 +1,15 @@
 -- Laws of stake, quorum and the limits of a setup. Assumes nothing.
-use Prim.Native.Nat.{ℕ, zero, suc, _+_, _-_, _*_, _≤_, _<_}
+use Prim.Native.Nat.{ℕ, zero, suc, _+_, _-_, _*_, _%_, _≤_, _<_}
 use mathlib.Core.Path.{_∙_, _≡_, ap, refl, sym}
 use mathlib.Core.Logic.{_≢_}
 use mathlib.Core.List.{List, [], _∷_, _++_}
 use mathlib.Core.Bool.{Bool, true, false, cond}
 use native.Mathlib.Omega.{arith}
 use native.Mathlib.Numerals.{add-one}
+use native.Mathlib.Nat.{mod-eq-of-lt}
 use lib.ListN.{length, getD, take, drop, take-append-drop}
 use lib.Seq.{take-suc, take-all}
+use lib.Bits.{bitOr, or-add-and, and-le-l, and-le-r}
 use lib.Dec.{eqb, ltb}
 use borrow.Author.Tests.{eq-eqb, ne-eqb, eqb-false, lt-ltb, le-ltb, ltb-false}
 use Rattle.certificates.specs.declared.numbers.Stake.{Stake}
@@ -45,6 +47,36 @@ summed-more {xs} {i} {total} k h x e =
 
 pub summed-all : {xs : List ℕ} {i total : ℕ} → Summed xs i total → length xs ≤ i → total ≡ sum xs
 summed-all {xs} {i} k h = rw (take-all i xs h) at (k .so-far)
+
+-- no number has fewer bits than one that it is joined with
+pub or-above-l : (a b : ℕ) → a ≤ bitOr a b
+or-above-l a b = omega (arith, or-add-and a b, and-le-r a b)
+
+pub or-above-r : (a b : ℕ) → b ≤ bitOr a b
+or-above-r a b = omega (arith, or-add-and a b, and-le-l a b)
+
+-- from here on a stake is large
+abbrev pub large : ℕ
+large = 16777216
+
+-- a loop that sums what is below `large` of each, and joins the bits of all: where these show no large one, it is the sum
+pub record SmallSum (xs : List ℕ) (i all total : ℕ) : Type 0 where
+  pub so-far : all < large → Summed xs i total
+
+pub small-none : (xs : List ℕ) → SmallSum xs 0 0 0
+small-none xs = record { so-far = λ h. summed-none xs }
+
+pub small-more : {xs : List ℕ} {i all total : ℕ} → SmallSum xs i all total → i < length xs → (x : ℕ) → x ≡ getD xs i 0
+    → SmallSum xs (i + 1) (bitOr all x) (total + x % large)
+small-more {xs} {i} {all} {total} k h x e =
+    record {
+      so-far = λ small.
+          let low : x < large = omega (arith, small, or-above-r all x) in
+          rw (mod-eq-of-lt low) (summed-more (k .so-far (omega (arith, small, or-above-l all x))) h x e);
+    }
+
+pub small-all : {xs : List ℕ} {i all total : ℕ} → SmallSum xs i all total → length xs ≤ i → all < large → total ≡ sum xs
+small-all k h small = summed-all (k .so-far small) h
 
 -- ---- stake
 

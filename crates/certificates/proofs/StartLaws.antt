@@ -5,17 +5,17 @@ use mathlib.Core.List.{List, [], _∷_, _++_}
 use mathlib.Core.Bool.{Bool, true, false, cond}
 use native.Mathlib.Omega.{arith}
 use native.Mathlib.Numerals.{add-one}
-use lib.ListN.{length, getD, take, set, length-set}
+use lib.ListN.{length, getD, take, drop, set, length-set}
 use lib.Seq.{take-suc, take-all, take-suc-set}
-use lib.Dec.{ltb}
-use borrow.Author.Tests.{lt-ltb, le-ltb, ltb-true}
+use lib.Dec.{eqb, ltb, leb}
+use borrow.Author.Tests.{lt-ltb, le-ltb, ltb-true, ltb-false, leb-true, eqb-true}
 use Rattle.certificates.specs.declared.numbers.Stake.{Stake}
 use Rattle.certificates.specs.declared.config.Setup.{Setup}
 use Rattle.certificates.specs.declared.config.Setup.the-variants.{Bad, Total}
-use Rattle.certificates.specs.Num.{numAt, numsAt}
+use Rattle.certificates.specs.Num.{le, numAt, numsAt}
 use Rattle.certificates.specs.Config.{membersMax, totalMax, sum, stakeOf, limited, setupOf}
-use Rattle.certificates.specs.Start.{membersAt, memberLen, keyLen, memberCount, ownPlace, stakesIn, keyAt, keysFrom, keysIn, below, ascending, setupAt, padded, loadedStakes}
-use Rattle.certificates.proofs.Bytes.{length-nums, nums-at}
+use Rattle.certificates.specs.Start.{membersAt, memberLen, keyLen, wordLen, sameWord, memberCount, ownPlace, stakesIn, keyAt, keysFrom, keysIn, below, ascending, setupAt, padded, loadedStakes}
+use Rattle.certificates.proofs.Bytes.{single, joined, num-within, length-nums, nums-at}
 use Rattle.certificates.proofs.ConfigLaws.{Within, within, stake-none, setup-many, setup-some}
 
 module _ (body : List ℕ) where
@@ -63,6 +63,79 @@ module _ {body : List ℕ} {a b left x y : ℕ} (k : Compared body a b left x y)
   pub compared-all : left ≡ 0 → false ≡ below (keyAt body a) (keyAt body b)
   unfolding below numsAt
   compared-all h = rw h at (k .rest)
+
+-- a word that is passed
+pub record PassedWord (body : List ℕ) (a b left x y : ℕ) : Type 0 where
+  pub long : wordLen ≤ left
+  pub next : Compared body a b (left - wordLen) (x + wordLen) (y + wordLen)
+
+from-word : (s p q : Bool) (m n : ℕ) → true ≡ cond s false (cond p (cond q (eqb m n) false) false) → (s ≡ false) × (p ≡ true) × (q ≡ true) × (m ≡ n)
+from-word true p q m n e = absurd (let z : _≡_ {A = ℕ} 0 1 = cc in omega arith)
+from-word false false q m n e = absurd (let z : _≡_ {A = ℕ} 0 1 = cc in omega arith)
+from-word false true false m n e = absurd (let z : _≡_ {A = ℕ} 0 1 = cc in omega arith)
+from-word false true true m n e = (refl, refl, refl, eqb-true m n (sym e))
+
+-- a number of w + 1 bytes is its lowest byte, and the others
+module _ (body : List ℕ) (bytes : (i : ℕ) → getD body i 0 < 256) where
+  first-byte : (w x : ℕ) → x + suc w ≤ length body → (numAt 1 body x < 256) × (le (take (suc w) (drop x body)) ≡ numAt 1 body x + 256 * le (take w (drop (x + 1) body)))
+  first-byte w x h =
+      let one : getD body x 0 ≡ le (take 1 (drop x body)) = single body x (omega arith) in
+      let read : getD body x 0 ≡ numAt 1 body x = num-within body x 1 one (omega arith) in
+      let low : getD body x 0 < 256 = bytes x in
+      let both : getD body x 0 + 256 * le (take w (drop (x + 1) body)) ≡ le (take (1 + w) (drop x body)) = joined body x 1 w one refl (omega arith) in
+      let long : 1 + w ≡ suc w = omega arith in
+      (omega (arith, read, low), rw (long, read) at (sym both))
+
+  -- bytes that make the same number are the same, and are passed together
+  pub compared-bytes : (w : ℕ) {a b left x y : ℕ} → Compared body a b left x y → w ≤ left → x + w ≤ length body → y + w ≤ length body
+      → le (take w (drop x body)) ≡ le (take w (drop y body)) → Compared body a b (left - w) (x + w) (y + w)
+  compared-bytes zero {a} {b} {left} {x} {y} k h hx hy e =
+      let d : left - 0 ≡ left = omega arith in
+      let p : x + 0 ≡ x = omega arith in
+      let q : y + 0 ≡ y = omega arith in
+      rw (d, p, q) k
+  compared-bytes (suc w) {a} {b} {left} {x} {y} k h hx hy e =
+      let u = first-byte w x hx in
+      let v = first-byte w y hy in
+      let same : numAt 1 body x ≡ numAt 1 body y = omega (arith, u .0, v .0, u .1, v .1, e) in
+      let rest : le (take w (drop (x + 1) body)) ≡ le (take w (drop (y + 1) body)) = omega (arith, u .0, v .0, u .1, v .1, e) in
+      let next = compared-same k (omega arith) refl refl (omega (arith, same)) (omega (arith, same)) in
+      let all = compared-bytes w next (omega arith) (omega arith) (omega arith) rest in
+      let d : left - suc w ≡ left - 1 - w = omega arith in
+      let p : x + suc w ≡ x + 1 + w = omega arith in
+      let q : y + suc w ≡ y + 1 + w = omega arith in
+      rw (d, p, q) all
+
+  pub compared-word : {a b left x y : ℕ} {t : Bool} → Compared body a b left x y → t ≡ sameWord body x y left → t ≡ true → PassedWord body a b left x y
+  unfolding sameWord
+  compared-word {a} {b} {left} {x} {y} k e t =
+      let g = from-word (ltb left wordLen) (leb (x + wordLen) (length body)) (leb (y + wordLen) (length body)) (numAt wordLen body x) (numAt wordLen body y) (sym t ∙ e) in
+      let long : wordLen ≤ left = ltb-false left wordLen (g .0) in
+      let hx : x + wordLen ≤ length body = leb-true _ _ (g .1) in
+      let hy : y + wordLen ≤ length body = leb-true _ _ (g .2) in
+      let u : le (take wordLen (drop x body)) ≡ numAt wordLen body x = num-within body x wordLen refl hx in
+      let v : le (take wordLen (drop y body)) ≡ numAt wordLen body y = num-within body y wordLen refl hy in
+      record { long = long; next = compared-bytes wordLen k long hx hy (u ∙ g .3 ∙ sym v) }
+
+-- the ways out of a look at two words
+module _ (body : List ℕ) (x y left : ℕ) where
+  pub word-short : left < wordLen → false ≡ sameWord body x y left
+  unfolding sameWord
+  word-short h = rw (lt-ltb left wordLen h)
+
+  pub word-read : {t u : Bool} {m n : ℕ} → wordLen ≤ left → t ≡ leb (x + wordLen) (length body) → t ≡ true → u ≡ leb (y + wordLen) (length body) → u ≡ true
+      → m ≡ numAt wordLen body x → n ≡ numAt wordLen body y → eqb m n ≡ sameWord body x y left
+  unfolding sameWord
+  word-read h e t f u g k = rw (le-ltb left wordLen h, ← e, t, ← f, u, g, k)
+
+  pub word-past-x : {t : Bool} → wordLen ≤ left → t ≡ leb (x + wordLen) (length body) → t ≡ false → false ≡ sameWord body x y left
+  unfolding sameWord
+  word-past-x h e t = rw (le-ltb left wordLen h, ← e, t)
+
+  pub word-past-y : {t u : Bool} → wordLen ≤ left → t ≡ leb (x + wordLen) (length body) → t ≡ true → u ≡ leb (y + wordLen) (length body) → u ≡ false
+      → false ≡ sameWord body x y left
+  unfolding sameWord
+  word-past-y h e t f u = rw (le-ltb left wordLen h, ← e, t, ← f, u)
 
 -- keys of which the first are passed: what is left of them decides as the whole
 pub record Ascended (body : List ℕ) (n left at : ℕ) : Type 0 where

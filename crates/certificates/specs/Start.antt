@@ -7,6 +7,7 @@
 --     keysFrom n body at   n keys, of which the first is at a place
 --     keysIn body          the keys, as many as the count says
 --     below k l            whether key k is strictly before key l by bytes: the first byte that differs decides
+--     sameWord body x y left     whether the next 8 of so many bytes that are left lie in the body at both places, and are the same
 --     ascending ks         whether each key is below the next
 --     setupAt body         the total where the body keeps 01's limits, else `Bad`
 --     padded n xs          the first n of a list, with 0 where it has ended
@@ -14,7 +15,8 @@
 use Prim.Native.Nat.{ℕ, zero, suc, _+_, _*_}
 use mathlib.Core.List.{List, [], _∷_}
 use mathlib.Core.Bool.{Bool, true, false, cond}
-use lib.Dec.{ltb}
+use lib.Dec.{eqb, ltb, leb}
+use lib.ListN.{length}
 use Rattle.certificates.specs.declared.config.Setup.{Setup}
 use Rattle.certificates.specs.declared.config.Setup.the-variants.{Bad}
 use Rattle.certificates.specs.Num.{numAt, numsAt}
@@ -54,6 +56,15 @@ below [] [] = false
 below [] (y ∷ ys) = true
 below (x ∷ xs) [] = false
 below (x ∷ xs) (y ∷ ys) = cond (ltb x y) true (cond (ltb y x) false (below xs ys))
+
+-- what the code passes over at a time: words that are the same decide nothing
+abbrev pub wordLen : ℕ
+wordLen = 8
+
+unfoldable pub sameWord : List ℕ → ℕ → ℕ → ℕ → Bool
+sameWord body x y left =
+    cond (ltb left wordLen) false
+    (cond (leb (x + wordLen) (length body)) (cond (leb (y + wordLen) (length body)) (eqb (numAt wordLen body x) (numAt wordLen body y)) false) false)
 
 -- "32-byte keys strictly ascending"
 unfoldable pub ascending : List (List ℕ) → Bool

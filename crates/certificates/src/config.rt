@@ -1,16 +1,18 @@
 // Stake and quorum: config.rs, and the limits of a setup (01: Members, stake, leader).
 //
 // A committee is the slice of its members' stakes by place; its length is the member count.
+use crate::num::holds;
 use crate::num::u8_at;
 use crate::num::u16_at;
 use crate::num::u32_at;
+use crate::num::u64_at;
 use crate::numbers::Place;
 use crate::numbers::Stake;
 ghost use mathlib.Core.Path.{_≡_};
 ghost use Prim.Native.Nat.{_+_, _*_, _≤_};
 ghost use lib.ListN.{length};
 ghost use Rattle.certificates.specs.Config.{membersMax, sum, stakeOf, quorumFrom, limited, setupOf};
-ghost use Rattle.certificates.specs.Start.{membersAt, memberLen, memberCount, ownPlace, stakesIn, keyAt, keysFrom, below, ascending, setupAt, loadedStakes};
+ghost use Rattle.certificates.specs.Start.{sameWord, membersAt, memberLen, memberCount, ownPlace, stakesIn, keyAt, keysFrom, below, ascending, setupAt, loadedStakes};
 
 // The most members that a committee has.
 pub const MEMBERS_MAX: usize = 64;
@@ -18,12 +20,18 @@ pub const MEMBERS_MAX: usize = 64;
 // The most stake that its members hold together.
 pub const TOTAL_MAX: u64 = 2147483647;
 
+// A stake is large from here on: as many below it as there are members sum up to 32 bits.
+const LARGE: u32 = 16777216;
+
 // Where START's body has the first member, how long a member is, and how long its key.
 const MEMBERS_AT: usize = 4;
 
 const MEMBER_LEN: usize = 36;
 
 const KEY_LEN: usize = 32;
+
+// The bytes of a word, by which keys are compared first.
+const WORD: usize = 8;
 
 // Whether a committee keeps the limits, and its total stake where it does.
 pub enum Setup {
@@ -62,7 +70,7 @@ fn limit(total: u64) -> Setup
 }
 
 // The stake of so few members that the sum fits.
-fn sum_stakes(members: &[u32]) -> u64
+fn sum_any(members: &[u32]) -> u64
     requires { ⌜ length (now members) ≤ membersMax ⌝ }
     ensures { λ r. ⌜ r ≡ sum (now (members .entry)) ⌝ }
 {
@@ -74,6 +82,27 @@ fn sum_stakes(members: &[u32]) -> u64
         i += 1;
     }
     sum
+}
+
+// The same. Where no stake is large, which `all` tells, the sum fits 32 bits: every event asks for it, and
+// more of them are added at a time.
+fn sum_stakes(members: &[u32]) -> u64
+    requires { ⌜ length (now members) ≤ membersMax ⌝ }
+    ensures { λ r. ⌜ r ≡ sum (now (members .entry)) ⌝ }
+{
+    let mut all: u32 = 0;
+    let mut sum: u32 = 0;
+    let mut i = 0;
+    while i < members.len() {
+        let s = members[i];
+        all = all | s;
+        sum += s % LARGE;
+        i += 1;
+    }
+    if all < LARGE {
+        return sum as u64;
+    }
+    sum_any(members)
 }
 
 // The total stake of a committee: `Bad` without members, with too many, or with too much stake.
@@ -131,7 +160,23 @@ fn sum_in(body: &[u8], n: usize) -> u64
     sum
 }
 
-// Whether the key at `a` is below the key at `b`: the first byte that differs decides.
+// Whether the next eight of so many bytes that are left lie in the body at both places, and are the same.
+fn is_word_same(body: &[u8], x: usize, y: usize, left: usize) -> bool
+    ensures { λ r. ⌜ r ≡ sameWord (now (body .entry)) x y left ⌝ }
+{
+    if left < WORD {
+        return false;
+    }
+    if holds(body, x, WORD) {
+        if holds(body, y, WORD) {
+            return u64_at(body, x) == u64_at(body, y);
+        }
+    }
+    false
+}
+
+// Whether the key at `a` is below the key at `b`: the first byte that differs decides. Words that are the
+// same are passed over.
 fn key_below(body: &[u8], a: usize, b: usize) -> bool
     requires { ⌜ (a ≤ membersAt + memberLen * membersMax) × (b ≤ membersAt + memberLen * membersMax) ⌝ }
     ensures { λ r. ⌜ r ≡ below (keyAt (now (body .entry)) a) (keyAt (now (body .entry)) b) ⌝ }
@@ -140,17 +185,23 @@ fn key_below(body: &[u8], a: usize, b: usize) -> bool
     let mut y = b;
     let mut left = KEY_LEN;
     while 0 < left {
-        let u = u8_at(body, x);
-        let v = u8_at(body, y);
-        if u < v {
-            return true;
+        if is_word_same(body, x, y, left) {
+            x += WORD;
+            y += WORD;
+            left -= WORD;
+        } else {
+            let u = u8_at(body, x);
+            let v = u8_at(body, y);
+            if u < v {
+                return true;
+            }
+            if v < u {
+                return false;
+            }
+            x += 1;
+            y += 1;
+            left -= 1;
         }
-        if v < u {
-            return false;
-        }
-        x += 1;
-        y += 1;
-        left -= 1;
     }
     false
 }

@@ -43,7 +43,7 @@ fn raw64(s: &[u8], at: usize) -> u64
 }
 
 // Whether w bytes from `at` on lie in s.
-fn holds(s: &[u8], at: usize, w: usize) -> bool
+pub(crate) fn holds(s: &[u8], at: usize, w: usize) -> bool
     ensures { λ r. ⌜ r ≡ leb (at + w) (length (now (s .entry))) ⌝ }
 {
     if w <= s.len() {
