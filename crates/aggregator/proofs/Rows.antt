@@ -1,5 +1,5 @@
 -- Laws of a table that lies in one list, row after row. Nothing here knows what a row means. In order:
---     Scanned, scan-...      a search that has come to row i, and its three ways on
+--     Scanned, scan-...      a search that has come to row i, and its ways on
 --     lowest-...             what a search says of the rows
 --     part-..., put-...      a row that is lent as a part, and the table once it is back
 --     row-...                the numbers and the place of a row
@@ -56,6 +56,13 @@ module _ {p : List ℕ → Bool} {w : ℕ} {v : List ℕ} {n i : ℕ} {r : Found
         is = rw (s .rest, m);
         below = λ j q. let z : _≡_ {A = ℕ} 0 1 = cc in omega arith;
       }
+
+  -- past the last row there is nothing to be found
+  pub scan-past : n ≤ i → Scanned p w v n (i + 1) r
+  scan-past h =
+      let m : n - i ≡ 0 = omega arith in
+      let k : n - (i + 1) ≡ 0 = omega arith in
+      record { rest = rw (s .rest, m, k) }
 
 pub found-below : {f r : Found} {n i : ℕ} → FoundAs f n r → r ≡ At i → i < n
 found-below a e = a .below _ e

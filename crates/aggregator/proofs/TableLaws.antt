@@ -5,16 +5,20 @@
 --     append-part                                an author counted in a row that is lent as a part
 --     added-vote-..., added-timeout-...          the ways out of `add_vote` and `add_timeout`, and what they ask on the way
 --     added-no-room, added-used, added-below     what an answer says
---     heavy-..., highs-...                       the ways out of `votes_heavy` and `timeouts_heavy`; the high rounds
+--     under-..., look-..., are-light-...         the ways of `weights_of`, `any_heavy` and `are_light`
+--     highs-...                                  the high rounds
 --     Each, each-...                             what holds of every tally in use, and goes on to hold
 -- Assumes nothing.
 use Prim.Native.Nat.{ℕ, _+_, _-_, _*_, _≤_, _<_, _^_}
-use mathlib.Core.Bool.{Bool, true, false, cond}
+use mathlib.Core.Bool.{Bool, true, false, not, cond, _||_}
 use mathlib.Core.List.{List}
+use mathlib.Core.Logic.{⊎-elim}
 use mathlib.Core.Path.{_≡_, refl, sym, ap, _∙_}
+use native.Mathlib.Nat.{eq-or-lt-of-le}
 use native.Mathlib.Omega.{arith}
 use borrow.Author.Tests.{eq-eqb, ne-eqb, eqb-true}
 use borrow.Rule.Slice.PartMut.{putMid}
+use lib.Bits.{bitOr, or-add-and, and-le-l, and-le-r}
 use lib.ListN.{length, getD, take, drop, length-take, length-drop}
 use lib.Seq.{drop-drop, drop-at, take-add, length-take-le}
 use Rattle.certificates.specs.declared.numbers.Hash.{Hash}
@@ -25,9 +29,9 @@ use Rattle.aggregator.specs.declared.tallies.Found.{Found}
 use Rattle.aggregator.specs.declared.tallies.Found.the-variants.{At, Nothing}
 use Rattle.aggregator.specs.Rows.{zeros, row, withRow, FoundAs}
 use Rattle.aggregator.specs.Tally.{fields, places, voteWidth, timeoutWidth, usedOf, roundOf, weightOf, namesOf, isFree, isVote, roundWith, ofRound, heavyWith, isHeavy, kept, newVote, newTimeout, hasName, noHigh, withHigh, withAuthor, counted, answerOf, AddedAs}
-use Rattle.aggregator.specs.Tallies.{voteTallies, timeoutTallies, timeoutsLength, totalMax, findRow, findFree, findHeavy, heavy, Light, dropped, firstOf, placeFor, opened, tableFor, TallyFor, Countable, answerAt, tableAt, added, after, voteAdded, votesAfter, timeoutAdded, timeoutsAfter, highsAt, HighsAs}
-use Rattle.aggregator.proofs.Rows.{part-row, put-as, row-first, row-at, row-within, Scanned, scan-start, scan-hit, scan-miss, lowest-below, lowest-holds, withRow-same, withRow-row, withRow-length, withRow-each, mapRows-row, zeros-row}
-use Rattle.aggregator.proofs.TallyLaws.{used-has, answer-some, answer-row, kept-length, kept-used, name-none, Kind, vote-kind, timeout-kind}
+use Rattle.aggregator.specs.Tallies.{voteTallies, timeoutTallies, timeoutsLength, totalMax, findRow, findFree, findHeavy, heavy, anyHeavy, Light, Under, dropped, firstOf, placeFor, opened, tableFor, TallyFor, Countable, answerAt, tableAt, added, after, voteAdded, votesAfter, timeoutAdded, timeoutsAfter, highsAt, HighsAs}
+use Rattle.aggregator.proofs.Rows.{part-row, put-as, row-first, row-at, row-within, Scanned, scan-start, scan-hit, scan-miss, scan-end, scan-past, lowest-below, lowest-holds, none-lowest, withRow-same, withRow-row, withRow-length, withRow-each, mapRows-row, zeros-row}
+use Rattle.aggregator.proofs.TallyLaws.{heavy-under, used-has, answer-some, answer-row, kept-length, kept-used, name-none, Kind, vote-kind, timeout-kind}
 
 -- ---- the searches that look at a tally's numbers where they lie
 
@@ -264,16 +268,96 @@ module _ (test : List ℕ → Bool) (new : List ℕ) (w n : ℕ) (v : List ℕ) 
       cases Nothing z q = absurd (let y : _≡_ {A = ℕ} 0 1 = cc in omega arith)
       cases (At j) z q = rw (← answer-row j (row w (tableFor test new w n v) j) p stake need q) (tally-for test new w n v .below j z)
 
--- ---- the ways out of `votes_heavy` and `timeouts_heavy`
+-- ---- the ways of `weights_of`
 
-module _ (w n : ℕ) (v : List ℕ) (total : ℕ) {r : Found} (f : FoundAs (findHeavy w n v total) n r) where
-  pub heavy-some : {i : ℕ} → r ≡ At i → true ≡ heavy w n v total
-  unfolding heavy
-  heavy-some e = rw (← f .is, e)
+or-le-l : (a b : ℕ) → a ≤ bitOr a b
+or-le-l a b = omega (arith, or-add-and a b, and-le-r a b)
 
-  pub heavy-none : r ≡ Nothing → false ≡ heavy w n v total
+or-le-r : (a b : ℕ) → b ≤ bitOr a b
+or-le-r a b = omega (arith, or-add-and a b, and-le-l a b)
+
+pub under-start : (w : ℕ) (v : List ℕ) → Under w 0 v 0
+under-start w v = record { weight = λ i b. absurd (omega arith) }
+
+-- one weight more
+pub under-more : (w i : ℕ) (v : List ℕ) (all : ℕ) → fields ≤ w → Under w i v all → Under w (i + 1) v (bitOr all (getD v (i * w + 2) 0))
+under-more w i v all wide h =
+    let x = getD v (i * w + 2) 0 in
+    record {
+      weight = λ k b.
+          ⊎-elim (λ (z : k ≡ i). rw (z, row-at w i 2 v (omega arith)) (or-le-r all x)) (λ (z : k < i). omega (arith, h .weight k z, or-le-l all x))
+          (eq-or-lt-of-le (omega arith));
+    }
+
+-- ---- the ways of `any_heavy`
+
+-- of both tables: what all tallies give is what those from row i on give
+pub record Looked (votes timeouts : List ℕ) (total i : ℕ) : Type 0 where
+  pub of-votes : Scanned (isHeavy total) voteWidth votes voteTallies i (findHeavy voteWidth voteTallies votes total)
+  pub of-timeouts : Scanned (isHeavy total) timeoutWidth timeouts timeoutTallies i (findHeavy timeoutWidth timeoutTallies timeouts total)
+
+pub look-start : (votes timeouts : List ℕ) (total : ℕ) → Looked votes timeouts total 0
+look-start votes timeouts total = record { of-votes = heavy-start voteWidth voteTallies votes total; of-timeouts = heavy-start timeoutWidth timeoutTallies timeouts total }
+
+module _ (w n : ℕ) (v : List ℕ) (total : ℕ) where
+  heavy-some : {i : ℕ} → FoundAs (findHeavy w n v total) n (At i) → heavy w n v total ≡ true
   unfolding heavy
-  heavy-none e = rw (← f .is, e)
+  heavy-some f = rw (← f .is)
+
+  heavy-none : FoundAs (findHeavy w n v total) n Nothing → heavy w n v total ≡ false
+  unfolding heavy
+  heavy-none f = rw (← f .is)
+
+  -- where no weight is above the total, none in use is
+  heavy-never : {top : ℕ} → Under w n v top → top ≤ total → heavy w n v total ≡ false
+  unfolding heavy findHeavy findRow
+  heavy-never h l =
+      rw (none-lowest (isHeavy total) w v n 0 (λ i a b. sym (heavy-under (usedOf (row w v i)) (weightOf (row w v i)) total (omega (arith, h .weight i (omega arith))))))
+
+module _ {votes timeouts : List ℕ} {total i : ℕ} (s : Looked votes timeouts total i) where
+  pub look-end : voteTallies ≤ i → false ≡ anyHeavy votes timeouts total
+  unfolding anyHeavy
+  look-end h =
+      rw (heavy-none voteWidth voteTallies votes total (scan-end (s .of-votes) h), heavy-none timeoutWidth timeoutTallies timeouts total (scan-end (s .of-timeouts) (omega arith)))
+
+  module _ (h : i < voteTallies) {b : Bool} (is : b ≡ heavyWith (getD votes (i * voteWidth) 0) (getD votes (i * voteWidth + 2) 0) total) where
+    pub look-vote : b ≡ true → true ≡ anyHeavy votes timeouts total
+    unfolding anyHeavy
+    look-vote e = rw (heavy-some voteWidth voteTallies votes total (heavy-hit (omega arith) h total (s .of-votes) is e))
+
+    -- there are fewer tallies of timeouts
+    pub look-past : b ≡ false → timeoutTallies ≤ i → Looked votes timeouts total (i + 1)
+    look-past e l = record { of-votes = heavy-miss (omega arith) h total (s .of-votes) is e; of-timeouts = scan-past (s .of-timeouts) l }
+
+    module _ (l : i < timeoutTallies) {d : Bool} (of : d ≡ heavyWith (getD timeouts (i * timeoutWidth) 0) (getD timeouts (i * timeoutWidth + 2) 0) total) where
+      pub look-timeout : d ≡ true → true ≡ anyHeavy votes timeouts total
+      unfolding anyHeavy
+      look-timeout f =
+          rw (heavy-some timeoutWidth timeoutTallies timeouts total (heavy-hit (omega arith) l total (s .of-timeouts) of f)) (either (heavy voteWidth voteTallies votes total))
+        where
+          either : (b : Bool) → true ≡ b || true
+          either true = refl
+          either false = refl
+
+      pub look-on : b ≡ false → d ≡ false → Looked votes timeouts total (i + 1)
+      look-on e f =
+          record { of-votes = heavy-miss (omega arith) h total (s .of-votes) is e; of-timeouts = heavy-miss (omega arith) l total (s .of-timeouts) of f }
+
+-- ---- the ways out of `are_light`
+
+module _ (votes timeouts : List ℕ) (total : ℕ) where
+  pub are-light-under : {a b : ℕ} → Under voteWidth voteTallies votes a → Under timeoutWidth timeoutTallies timeouts b → bitOr a b ≤ total
+      → true ≡ not (anyHeavy votes timeouts total)
+  unfolding anyHeavy
+  are-light-under {a} {b} h k l =
+      rw (heavy-never voteWidth voteTallies votes total h (omega (arith, or-le-l a b)), heavy-never timeoutWidth timeoutTallies timeouts total k (omega (arith, or-le-r a b)))
+
+  module _ {b : Bool} (is : b ≡ anyHeavy votes timeouts total) where
+    pub are-light-not : b ≡ true → false ≡ not (anyHeavy votes timeouts total)
+    are-light-not e = rw (← is, e)
+
+    pub are-light-all : b ≡ false → true ≡ not (anyHeavy votes timeouts total)
+    are-light-all e = rw (← is, e)
 
 -- ---- the high rounds
 

@@ -5,7 +5,9 @@
 --     findRow test w n v                  the lowest tally that passes the test
 --     findFree w n v                      the lowest that is not in use
 --     findHeavy w n v total, heavy w n v total      the lowest in use that is heavier than the total; whether there is one (isAt)
+--     anyHeavy votes timeouts total       whether there is one in the table of votes or in that of timeouts
 --     Light w n v total                   none in use is heavier than the total
+--     Under w n v top                     no tally, in use or not, is heavier than `top`
 --     dropped w n v round                 the table once the round is `round`
 --     placeFor test w n v                 the row of the tally that passes the test, or of a new one; Nothing if all are held (firstOf)
 --     tableFor test new w n v             the table with that tally in it, `new` where there was none (opened)
@@ -18,7 +20,7 @@
 --     highsAt v i                         the high rounds of the timeout tally in row i, by place
 --     HighsAs v i h                       h is those, one for each place
 use Prim.Native.Nat.{ℕ, _*_, _≤_, _<_}
-use mathlib.Core.Bool.{Bool, true, false, cond}
+use mathlib.Core.Bool.{Bool, true, false, cond, _||_}
 use mathlib.Core.List.{List}
 use mathlib.Core.Path.{_≡_}
 use lib.ListN.{length, drop}
@@ -65,9 +67,15 @@ isAt Nothing = false
 unfoldable pub heavy : ℕ → ℕ → List ℕ → ℕ → Bool
 heavy w n v total = isAt (findHeavy w n v total)
 
+unfoldable pub anyHeavy : List ℕ → List ℕ → ℕ → Bool
+anyHeavy votes timeouts total = heavy voteWidth voteTallies votes total || heavy timeoutWidth timeoutTallies timeouts total
+
 -- "a tally weight above the total, counts as not started"
 pub record Light (w n : ℕ) (v : List ℕ) (total : ℕ) : Type 0 where
   pub weight : (i : ℕ) → i < n → (usedOf (row w v i) ≡ 0 → ⊥) → weightOf (row w v i) ≤ total
+
+pub record Under (w n : ℕ) (v : List ℕ) (top : ℕ) : Type 0 where
+  pub weight : (i : ℕ) → i < n → weightOf (row w v i) ≤ top
 
 -- Advance: "tallies below it are dropped and their room is used again"
 unfoldable pub dropped : ℕ → ℕ → List ℕ → ℕ → List ℕ

@@ -10,6 +10,7 @@
 use crate::tally::HIGHS;
 use crate::tally::PLACES;
 use crate::tally::ROUND;
+use crate::tally::WEIGHT;
 use crate::tally::append;
 use crate::tally::append_high;
 use crate::tally::is_heavy;
@@ -23,12 +24,13 @@ use certificates::numbers::Place;
 use certificates::numbers::Round;
 use certificates::numbers::Signers;
 use certificates::numbers::Stake;
+ghost use mathlib.Core.Bool.{not};
 ghost use mathlib.Core.Path.{_≡_};
 ghost use Prim.Native.Nat.{_+_, _*_, _≤_, _<_, _^_};
 ghost use lib.ListN.{length};
 ghost use Rattle.aggregator.specs.Rows.{row, withRow, FoundAs, zeros};
 ghost use Rattle.aggregator.specs.Tally.{fields, places, voteWidth, timeoutWidth, weightOf, isVote, ofRound, newVote, newTimeout, noHigh, withHigh, answerOf, counted, AddedAs};
-ghost use Rattle.aggregator.specs.Tallies.{voteTallies, timeoutTallies, votesLength, timeoutsLength, findRow, findFree, findHeavy, heavy, dropped, TallyFor, Countable, voteAdded, votesAfter, timeoutAdded, timeoutsAfter, HighsAs};
+ghost use Rattle.aggregator.specs.Tallies.{voteTallies, timeoutTallies, votesLength, timeoutsLength, findRow, findFree, anyHeavy, Under, dropped, TallyFor, Countable, voteAdded, votesAfter, timeoutAdded, timeoutsAfter, HighsAs};
 
 pub const VOTE_TALLIES: usize = 32;
 
@@ -267,41 +269,55 @@ pub fn cleanup_timeouts(timeouts: &mut [u64], round: Round)
     cleanup(timeouts, TIMEOUT_WIDTH, TIMEOUT_TALLIES, round);
 }
 
-// The lowest of n tallies, each w wide, that is in use with a weight above the total.
-pub fn find_heavy(v: &[u64], w: usize, n: usize, total: Stake) -> Found
+// Every bit that the weight of some of n tallies has, each w wide. No weight is above it.
+fn weights_of(v: &[u64], w: usize, n: usize) -> u64
     requires { ⌜ (fields ≤ w) × (n * w ≤ length (now v)) ⌝ }
-    ensures { λ r. ⌜ FoundAs (findHeavy w n (now (v .entry)) (total .0)) n r ⌝ }
+    ensures { λ r. ⌜ Under w n (now (v .entry)) r ⌝ }
 {
+    let mut all: u64 = 0;
     let mut i: usize = 0;
     while i < n {
-        let from = i * w;
-        if is_heavy(v, from, total) {
-            return Found::At(i);
+        all = all | v[i * w + WEIGHT];
+        i += 1;
+    }
+    all
+}
+
+// Whether some tally in use is heavier than the total. One loop looks at both tables.
+fn any_heavy(votes: &[u64], timeouts: &[u64], total: Stake) -> bool
+    requires { ⌜ (length (now votes) ≡ votesLength) × (length (now timeouts) ≡ timeoutsLength) ⌝ }
+    ensures { λ r. ⌜ r ≡ anyHeavy (now (votes .entry)) (now (timeouts .entry)) (total .0) ⌝ }
+{
+    let mut i: usize = 0;
+    while i < VOTE_TALLIES {
+        if is_heavy(votes, i * VOTE_WIDTH, total) {
+            return true;
+        }
+        if i < TIMEOUT_TALLIES {
+            if is_heavy(timeouts, i * TIMEOUT_WIDTH, total) {
+                return true;
+            }
         }
         i += 1;
     }
-    Found::Nothing
+    false
 }
 
-// Whether some tally in use is heavier than the total.
-pub fn votes_heavy(votes: &[u64], total: Stake) -> bool
-    requires { ⌜ length (now votes) ≡ votesLength ⌝ }
-    ensures { λ r. ⌜ r ≡ heavy voteWidth voteTallies (now (votes .entry)) (total .0) ⌝ }
+// Whether no tally in use is heavier than the total. Where the bits of all weights together are no
+// more than the total, none is, and no tally is looked at by itself.
+pub fn are_light(votes: &[u64], timeouts: &[u64], total: Stake) -> bool
+    requires { ⌜ (length (now votes) ≡ votesLength) × (length (now timeouts) ≡ timeoutsLength) ⌝ }
+    ensures { λ r. ⌜ r ≡ not (anyHeavy (now (votes .entry)) (now (timeouts .entry)) (total .0)) ⌝ }
 {
-    match find_heavy(votes, VOTE_WIDTH, VOTE_TALLIES, total) {
-        Found::At(_) => true,
-        Found::Nothing => false,
+    let of_votes = weights_of(votes, VOTE_WIDTH, VOTE_TALLIES);
+    let of_timeouts = weights_of(timeouts, TIMEOUT_WIDTH, TIMEOUT_TALLIES);
+    if of_votes | of_timeouts <= (total.0 as u64) {
+        return true;
     }
-}
-
-pub fn timeouts_heavy(timeouts: &[u64], total: Stake) -> bool
-    requires { ⌜ length (now timeouts) ≡ timeoutsLength ⌝ }
-    ensures { λ r. ⌜ r ≡ heavy timeoutWidth timeoutTallies (now (timeouts .entry)) (total .0) ⌝ }
-{
-    match find_heavy(timeouts, TIMEOUT_WIDTH, TIMEOUT_TALLIES, total) {
-        Found::At(_) => true,
-        Found::Nothing => false,
+    if any_heavy(votes, timeouts, total) {
+        return false;
     }
+    true
 }
 
 // Every number becomes 0: a table with no tally in use.

@@ -1,6 +1,6 @@
 -- Laws of counting as started and of the room: one for each way out, and what a started record gives the handlers. Assumes nothing.
 use Prim.Native.Nat.{ℕ, _-_, _≤_, _<_}
-use mathlib.Core.Bool.{Bool, true, false, cond, true≢false}
+use mathlib.Core.Bool.{Bool, true, false, not, cond, _||_, true≢false}
 use mathlib.Core.List.{List}
 use mathlib.Core.Path.{_≡_, refl, sym, _∙_, ap}
 use native.Mathlib.Omega.{arith}
@@ -14,7 +14,7 @@ use Rattle.certificates.specs.declared.config.Setup.{Setup}
 use Rattle.certificates.specs.declared.config.Setup.the-variants.{Bad, Total}
 use Rattle.certificates.proofs.ConfigLaws.{Within, within}
 use Rattle.aggregator.specs.Tally.{voteWidth, timeoutWidth}
-use Rattle.aggregator.specs.Tallies.{voteTallies, timeoutTallies, votesLength, timeoutsLength, heavy}
+use Rattle.aggregator.specs.Tallies.{voteTallies, timeoutTallies, votesLength, timeoutsLength, heavy, anyHeavy}
 use Rattle.aggregator.proofs.Laws.{light-of, light-more}
 use Rattle.handlers.specs.Sound.{Sound}
 use Rattle.replica.specs.declared.started.Seat.{Seat}
@@ -86,16 +86,21 @@ module _ (stakes votes timeouts : ℕ) where
     unfolding shaped
     shaped-many a = rw (lt-leb _ _ a)
 
-module _ (votes timeouts : List ℕ) (t : Stake) {v : Bool} (e : v ≡ heavy voteWidth voteTallies votes (t .0)) where
-  pub light-votes : v ≡ true → Bad ≡ lightIn votes timeouts (Total t)
-  light-votes h = rw (← e, h)
+light-by : (a b : Bool) (t : Stake) → cond (not (a || b)) (Total t) Bad ≡ cond a Bad (cond b Bad (Total t))
+light-by true b t = refl
+light-by false true t = refl
+light-by false false t = refl
 
-  module _ (l : v ≡ false) {k : Bool} (f : k ≡ heavy timeoutWidth timeoutTallies timeouts (t .0)) where
-    pub light-timeouts : k ≡ true → Bad ≡ lightIn votes timeouts (Total t)
-    light-timeouts h = rw (← e, l, ← f, h)
+module _ (votes timeouts : List ℕ) (t : Stake) {l : Bool} (e : l ≡ not (anyHeavy votes timeouts (t .0))) where
+  light-is : cond l (Total t) Bad ≡ lightIn votes timeouts (Total t)
+  unfolding anyHeavy
+  light-is = rw e (light-by (heavy voteWidth voteTallies votes (t .0)) (heavy timeoutWidth timeoutTallies timeouts (t .0)) t)
 
-    pub light-both : k ≡ false → Total t ≡ lightIn votes timeouts (Total t)
-    light-both h = rw (← e, l, ← f, h)
+  pub light-all : l ≡ true → Total t ≡ lightIn votes timeouts (Total t)
+  light-all h = rw h at light-is
+
+  pub light-not : l ≡ false → Bad ≡ lightIn votes timeouts (Total t)
+  light-not h = rw h at light-is
 
 -- the committee, as it is lent out of the stakes
 pub members-part : (seat : Seat) (stakes : List ℕ) → take (seat .count - 0) (drop 0 stakes) ≡ membersOf seat stakes

@@ -3,8 +3,7 @@ use aggregator::tallies::TIMEOUT_TALLIES;
 use aggregator::tallies::TIMEOUT_WIDTH;
 use aggregator::tallies::VOTE_TALLIES;
 use aggregator::tallies::VOTE_WIDTH;
-use aggregator::tallies::timeouts_heavy;
-use aggregator::tallies::votes_heavy;
+use aggregator::tallies::are_light;
 use certificates::config::MEMBERS_MAX;
 use certificates::config::Setup;
 use certificates::config::total_stake;
@@ -56,13 +55,11 @@ fn light_in(votes: &[u64], timeouts: &[u64], total: Stake) -> Setup
     requires { ⌜ (length (now votes) ≡ votesLength) × (length (now timeouts) ≡ timeoutsLength) ⌝ }
     ensures { λ r. ⌜ r ≡ lightIn (now (votes .entry)) (now (timeouts .entry)) (Total total) ⌝ }
 {
-    if votes_heavy(votes, total) {
-        return Setup::Bad;
+    if are_light(votes, timeouts, total) {
+        Setup::Total(total)
+    } else {
+        Setup::Bad
     }
-    if timeouts_heavy(timeouts, total) {
-        return Setup::Bad;
-    }
-    Setup::Total(total)
 }
 
 // The total stake, where the record counts as started. It is asked on every event.
