@@ -3,8 +3,8 @@
 --     author-member                               an author whose check is passed is a member
 --     keeps-sound, sound-taken                    a record that counts as started is one after a move, and once a QC is taken
 --     sound-stake, sound-place                    in such a record: a stake, and a member's place, within the limits
---     sound-counts-vote, sound-counts-timeout     .. what the code that counts asks for
-use Prim.Native.Nat.{ℕ, _+_, _≤_, _<_}
+--     sound-counts-vote, sound-counts-timeout     .. a member may be counted
+use Prim.Native.Nat.{ℕ, _≤_, _<_}
 use mathlib.Core.Bool.{Bool, true, false, cond}
 use mathlib.Core.List.{List}
 use mathlib.Core.Path.{_≡_, refl, sym, _∙_}
@@ -19,15 +19,14 @@ use Rattle.certificates.specs.Error.{authorNumber}
 use Rattle.certificates.proofs.ConfigLaws.{stake-le}
 use Rattle.certificates.proofs.MessageLaws.{author}
 use Rattle.certificates.proofs.ErrorLaws.{number-valid}
-use Rattle.aggregator.specs.Tally.{places}
+use Rattle.aggregator.specs.Tally.{places, voteWidth, timeoutWidth}
+use Rattle.aggregator.specs.Tallies.{voteTallies, timeoutTallies, Countable}
+use Rattle.aggregator.proofs.Laws.{countable}
 use Rattle.moves.specs.declared.state.Core.{Core}
-use Rattle.certificates.specs.Numbers.{roundMax}
 use Rattle.moves.specs.State.{State, whole}
 use Rattle.moves.specs.Outcome.{Did}
-use Rattle.moves.specs.Moves.{takenQC, certifyMost, timeOutMost}
-use Rattle.moves.specs.Tallied.{VoteCounts, TimeoutCounts}
+use Rattle.moves.specs.Moves.{takenQC}
 use Rattle.moves.proofs.MoveLaws.{Keeps, did-keeps, taken-keeps}
-use Rattle.moves.proofs.TallyLaws.{vote-counts, timeout-counts}
 use Rattle.handlers.specs.Sound.{Sound, first}
 
 -- ---- the first of two checks that is not passed
@@ -77,15 +76,14 @@ module _ {m : List ℕ} {own : ℕ} {votes timeouts : List ℕ} (k : Sound m own
   pub sound-place : (p : ℕ) → p < length m → p < places
   sound-place p h = omega (arith, k .few)
 
-  -- what the code that counts asks for
-  module _ (p round at : ℕ) {stake : ℕ} (out : List ℕ) (h : p < length m) (e : stake ≡ stakeOf m p) (high : round ≤ roundMax) where
-    pub sound-counts-vote : at + certifyMost ≤ length out → VoteCounts votes timeouts out at round p stake
-    sound-counts-vote room =
-        vote-counts {total = totalMax} out at round p stake (k .long) (k .wide) high (sound-place p h) (rw e (sound-stake p)) (omega arith) (k .light) room
+  -- what `add_vote` and `add_timeout` ask of a member with its stake
+  module _ (p : ℕ) {stake : ℕ} (h : p < length m) (e : stake ≡ stakeOf m p) where
+    pub sound-counts-vote : Countable voteWidth voteTallies votes p stake
+    sound-counts-vote = countable voteWidth voteTallies votes totalMax p stake (k .long) (sound-place p h) (k .light) (rw e (sound-stake p)) (omega arith)
 
-    pub sound-counts-timeout : at + timeOutMost ≤ length out → TimeoutCounts votes timeouts out at round p stake
-    sound-counts-timeout room =
-        timeout-counts {total = totalMax} out at round p stake (k .long) (k .wide) high (sound-place p h) (rw e (sound-stake p)) (omega arith) (k .late) room
+    pub sound-counts-timeout : Countable timeoutWidth timeoutTallies timeouts p stake
+    sound-counts-timeout =
+        countable timeoutWidth timeoutTallies timeouts totalMax p stake (k .wide) (sound-place p h) (k .late) (rw e (sound-stake p)) (omega arith)
 
   -- once a QC is taken
   pub sound-taken : (core : Core) (q : QC) {l at next : ℕ} {c : Core} {out out′ v t : List ℕ} → Did l (takenQC (whole core votes timeouts) q) out at c v t out′ next → Sound m own v t

@@ -1,6 +1,8 @@
 // TIMEOUT, TC and TICK: handle_timeout, handle_tc, local_timeout_round.
 use crate::checks::YES;
 use crate::checks::signers_of;
+use aggregator::tallies::Added;
+use aggregator::tallies::add_timeout;
 use certificates::config::MEMBERS_MAX;
 use certificates::config::stake;
 use certificates::error::DONE;
@@ -22,10 +24,11 @@ use certificates::numbers::Stake;
 use moves::rounds::advance_round;
 use moves::rounds::generate_proposal_with;
 use moves::rounds::process_qc;
+use moves::rounds::time_out;
 use moves::state::Core;
 use moves::state::Moved;
 use moves::state::Ran;
-use moves::tallies::count_timeout;
+use moves::tallies::added_number;
 use outputs::records::put_timeout;
 use outputs::records::put_timer_reset;
 use trace::events::TC_BODY;
@@ -56,7 +59,8 @@ fn timeout_check(members: &[u32], current: Round, t: Timeout) -> u16
     author_number(check_author(members, t.author, t.verdict))
 }
 
-// The QC is taken; then the tally by round.
+// The QC is taken; then the tally by round. The state is handed on only at the quorum, so that no
+// other timeout copies it.
 fn take_timeout(
     members: &[u32],
     own: Place,
@@ -80,20 +84,33 @@ fn take_timeout(
     };
     let a = process_qc(core, votes, timeouts, out, 0, qc);
     let held = stake(members, t.author);
-    count_timeout(
-        members,
-        own,
-        need,
-        a.core,
-        votes,
-        timeouts,
-        out,
-        a.at,
-        t.round,
-        t.author,
-        held,
-        qc.round,
-    )
+    let x = add_timeout(timeouts, t.round, t.author, held, need, qc.round);
+    if let Added::Full(i, names) = x {
+        let m = time_out(
+            members,
+            own,
+            a.core,
+            votes,
+            timeouts,
+            out,
+            a.at,
+            t.round,
+            i,
+            names,
+        );
+        let n = m.core;
+        return Ran {
+            answer: DONE,
+            core: n,
+            at: m.at,
+        };
+    }
+    let n = a.core;
+    Ran {
+        answer: added_number(x),
+        core: n,
+        at: a.at,
+    }
 }
 
 // t is what the record says; its QC is checked where it lies.
@@ -240,20 +257,32 @@ fn own_timeout(
         };
     }
     let held = stake(members, own);
-    count_timeout(
-        members,
-        own,
-        need,
+    let a = add_timeout(timeouts, core.round, own, held, need, core.high_qc.round);
+    if let Added::Full(i, names) = a {
+        let m = time_out(
+            members,
+            own,
+            core,
+            votes,
+            timeouts,
+            out,
+            at,
+            core.round,
+            i,
+            names,
+        );
+        let n = m.core;
+        return Ran {
+            answer: DONE,
+            core: n,
+            at: m.at,
+        };
+    }
+    Ran {
+        answer: added_number(a),
         core,
-        votes,
-        timeouts,
-        out,
         at,
-        core.round,
-        own,
-        held,
-        core.high_qc.round,
-    )
+    }
 }
 
 pub fn local_timeout_round(

@@ -1,17 +1,21 @@
 // VOTE, and the vote for a block: handle_vote, make_vote.
 use crate::checks::YES;
+use aggregator::tallies::Added;
+use aggregator::tallies::add_vote;
 use certificates::config::stake;
 use certificates::error::DONE;
 use certificates::error::STALE;
 use certificates::error::author_number;
 use certificates::leader::get_leader;
+use certificates::messages::QC;
 use certificates::messages::check_author;
 use certificates::numbers::Place;
 use certificates::numbers::Round;
 use certificates::numbers::Stake;
+use moves::rounds::certify;
 use moves::state::Core;
 use moves::state::Ran;
-use moves::tallies::count_vote;
+use moves::tallies::added_number;
 use outputs::records::put_vote;
 use trace::events::Block;
 use trace::events::Vote;
@@ -36,8 +40,9 @@ fn vote_check(members: &[u32], current: Round, v: Vote) -> u16
     author_number(check_author(members, v.author, v.verdict))
 }
 
-// A vote that passes the checks is counted; any other is answered by their number, and leaves
-// everything as it was.
+// A vote that passes the checks is counted, and at the quorum its QC is taken. Any other is
+// answered by their number, and leaves everything as it was. The state is handed on only at the
+// quorum, so that no other vote copies it.
 pub fn handle_vote(
     members: &[u32],
     own: Place,
@@ -61,20 +66,27 @@ pub fn handle_vote(
     }
     let held = stake(members, v.author);
     let hash = v.hash;
-    count_vote(
-        members,
-        own,
-        need,
+    let round = v.round;
+    let a = add_vote(votes, round, hash, v.author, held, need);
+    if let Added::Full(_, signers) = a {
+        let qc = QC {
+            hash,
+            round,
+            signers,
+        };
+        let m = certify(members, own, core, votes, timeouts, out, 0, qc);
+        let n = m.core;
+        return Ran {
+            answer: DONE,
+            core: n,
+            at: m.at,
+        };
+    }
+    Ran {
+        answer: added_number(a),
         core,
-        votes,
-        timeouts,
-        out,
-        0,
-        hash,
-        v.round,
-        v.author,
-        held,
-    )
+        at: 0,
+    }
 }
 
 // The block extends its QC's round, or a TC's whose high rounds are not above the QC's.
@@ -130,20 +142,27 @@ fn own_vote(
     }
     let held = stake(members, own);
     let hash = b.digest;
-    count_vote(
-        members,
-        own,
-        need,
+    let round = b.round;
+    let a = add_vote(votes, round, hash, own, held, need);
+    if let Added::Full(_, signers) = a {
+        let qc = QC {
+            hash,
+            round,
+            signers,
+        };
+        let m = certify(members, own, core, votes, timeouts, out, at, qc);
+        let n = m.core;
+        return Ran {
+            answer: DONE,
+            core: n,
+            at: m.at,
+        };
+    }
+    Ran {
+        answer: added_number(a),
         core,
-        votes,
-        timeouts,
-        out,
         at,
-        hash,
-        b.round,
-        own,
-        held,
-    )
+    }
 }
 
 // Last voted becomes the block's round, and VOTE is written to the next round's leader. Where that is

@@ -1,26 +1,30 @@
 -- 01, Events: a vote or a timeout counted in its tally, and what follows. `need` is the quorum.
 --     qcOf hash round signers          the QC of these
+--     addedNumber a                    the number of what became of a vote or a timeout
 --     afterVote, afterTimeout          what follows from the tally's answer
 --     voteTallied, timeoutTallied      the tally, and what follows from it
---     VoteCounts, TimeoutCounts        what the code that counts asks for
-use Prim.Native.Nat.{ℕ, _+_, _≤_}
+use Prim.Native.Nat.{ℕ}
 use mathlib.Core.List.{List}
-use mathlib.Core.Path.{_≡_}
-use lib.ListN.{length}
 use Rattle.certificates.specs.declared.numbers.Hash.{Hash}
 use Rattle.certificates.specs.declared.numbers.Signers.{Signers}
 use Rattle.certificates.specs.declared.messages.QC.{QC}
+use Rattle.certificates.specs.Error as number
 use Rattle.aggregator.specs.declared.tallies.Added.{Added}
 use Rattle.aggregator.specs.declared.tallies.Added.the-variants.{NoRoom, Used, More, Full}
-use Rattle.aggregator.specs.Tally.{voteWidth, timeoutWidth}
-use Rattle.aggregator.specs.Tallies.{voteTallies, timeoutTallies, votesLength, timeoutsLength, highsAt, voteAdded, votesAfter, timeoutAdded, timeoutsAfter, Countable}
-use Rattle.certificates.specs.Numbers.{roundMax}
+use Rattle.aggregator.specs.Tallies.{highsAt, voteAdded, votesAfter, timeoutAdded, timeoutsAfter}
 use Rattle.moves.specs.State.{State, withVotes, withTimeouts}
 use Rattle.moves.specs.Outcome.{Outcome, quiet, done, refused}
-use Rattle.moves.specs.Moves.{certified, timedOut, certifyMost, timeOutMost}
+use Rattle.moves.specs.Moves.{certified, timedOut}
 
 abbrev pub qcOf : Hash → ℕ → Signers → QC
 qcOf hash round signers = record { hash = hash; round = record { 0 = round }; signers = signers }
+
+-- 29: "new tally, all 32 vote or 16 timeout tallies held"; 24: "A used author is REUSE."; else DONE
+abbrev pub addedNumber : Added → ℕ
+addedNumber NoRoom = number.talliesFull
+addedNumber Used = number.authorityReuse
+addedNumber More = number.done
+addedNumber (Full i names) = number.done
 
 -- once the vote was counted, which gave this, in a table that then is `votes`
 abbrev pub afterVote : List ℕ → ℕ → State → Hash → ℕ → List ℕ → Added → Outcome
@@ -46,18 +50,3 @@ afterTimeout m own s round timeouts (Full i names) = done 0 (timedOut m own (wit
 unfoldable pub timeoutTallied : List ℕ → ℕ → ℕ → State → ℕ → ℕ → ℕ → ℕ → Outcome
 timeoutTallied m own need s round p stake high =
     afterTimeout m own s round (timeoutsAfter (s .timeouts) round p stake need high) (timeoutAdded (s .timeouts) round p stake need)
-
--- ---- what the code that counts asks for: memory of the right sizes and room, a round within the limit, and a member of a committee
--- within the limits
-
-pub record VoteCounts (votes timeouts out : List ℕ) (at round p stake : ℕ) : Type 0 where
-  pub countable : Countable voteWidth voteTallies votes p stake
-  pub wide : length timeouts ≡ timeoutsLength
-  pub room : at + certifyMost ≤ length out
-  pub high : round ≤ roundMax
-
-pub record TimeoutCounts (votes timeouts out : List ℕ) (at round p stake : ℕ) : Type 0 where
-  pub countable : Countable timeoutWidth timeoutTallies timeouts p stake
-  pub long : length votes ≡ votesLength
-  pub room : at + timeOutMost ≤ length out
-  pub high : round ≤ roundMax

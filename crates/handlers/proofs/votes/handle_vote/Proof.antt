@@ -1,6 +1,7 @@
--- `handlers::votes::handle_vote` meets its contract: an early answer leaves everything, and a vote whose check is passed is counted.
--- Assumes nothing.
+-- `handlers::votes::handle_vote` meets its contract: an early answer leaves everything; a vote whose check is passed is counted, short of the
+-- quorum or with it. Assumes nothing.
 use borrow.Author.Needs.{needs}
+use Rattle.moves.proofs.TallyLaws.{vote-tallied-short, vote-tallied-full}
 use Rattle.handlers.proofs.HandlerLaws.{sound-counts-vote}
 use Rattle.handlers.proofs.VoteLaws.{vote-member, vote-refused, vote-passed}
 use Rattle.handlers.proofs.votes.handle_vote.Statement.{statement}
@@ -15,8 +16,14 @@ returns c = search (needs, vote-refused)
 stake-requires : tie.Need-stake-requires
 stake-requires c κs = search needs
 
-count-vote-requires : tie.Need-count-vote-requires
-count-vote-requires c κs = search (needs, sound-counts-vote, vote-member)
+add-vote-requires : tie.Need-add-vote-requires
+add-vote-requires c κs = search (needs, sound-counts-vote, vote-member)
+
+enum-known-a : tie.Need-enum-known-a
+enum-known-a c = search needs
+
+certify-requires : tie.Need-certify-requires
+certify-requires c κs = search needs
 
 same-length : tie.Need-same-length
 same-length c = search needs
@@ -29,12 +36,24 @@ same-length-3 c = search needs
 
 returns-2 : tie.Need-returns-2
 returns-2 c =
-    let after-count = c .before .before .before .before .before .before in
-    let after-stake = after-count .before .before .before .before .before in
+    let after-certify = c .before .before .before .before .before .before .before in
+    let full = after-certify .before .before .before .before .before in
+    let after-add = full .before .before .before .before in
+    let after-stake = after-add .before .before .before .before in
     let passed = after-stake .before in
     let after-check = passed .before in
     let start = after-check .before .before .before .before .before in
-    vote-passed _ _ (start .args .core) _ _ _ (start .args .v) (after-check .vote-check .ensures) (passed .if1 .left) (start .pre .1) (after-stake .stake .ensures) (after-count .count-vote .ensures)
+    vote-passed _ _ (start .args .core) _ _ _ (start .args .v) (after-check .vote-check .ensures) (passed .if1 .left) (start .pre .1) (after-stake .stake .ensures)
+    (vote-tallied-full _ _ _ _ _ _ _ _ _ _ _ _ (after-add .add-vote .ensures) (full .a .given .1) (after-certify .certify .ensures))
+
+added-number-requires : tie.Need-added-number-requires
+added-number-requires c κs = search needs
+
+same-length-4 : tie.Need-same-length-4
+same-length-4 c = search needs
+
+returns-3 : tie.Need-returns-3
+returns-3 c = search (needs, vote-passed, vote-tallied-short)
 
 pub handle-vote-spec : {M : Type 1} → statement M
 handle-vote-spec =
@@ -43,8 +62,13 @@ handle-vote-spec =
     vote-check-requires
     returns
     stake-requires
-    count-vote-requires
+    add-vote-requires
+    enum-known-a
+    certify-requires
     same-length
     same-length-2
     same-length-3
-    returns-2)
+    returns-2
+    added-number-requires
+    same-length-4
+    returns-3)
