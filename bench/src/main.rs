@@ -86,11 +86,19 @@ struct Run {
 
 // ---- records
 
+/// The byte of a key that says whose it is: keys mostly differ in their first byte, at worst in their last.
+const FIRST: usize = 0;
+const LAST: usize = 31;
+
 fn start(members: u16, own: u16) -> Vec<u8> {
+    start_with(members, own, FIRST)
+}
+
+fn start_with(members: u16, own: u16, differs: usize) -> Vec<u8> {
     let mut r = [&1u16.to_le_bytes()[..], &members.to_le_bytes(), &own.to_le_bytes()].concat();
     for i in 0..members {
-        let mut key = [0u8; 32];
-        key[31] = i as u8;
+        let mut key = [7u8; 32];
+        key[differs] = i as u8;
         r.extend(key);
         r.extend(1u32.to_le_bytes());
     }
@@ -140,6 +148,7 @@ fn runs() -> Vec<Run> {
     // rounds 1, 3, 5, .. deliver nothing; the two neighbours at the end deliver all of it
     let odd = |n: u64| (0..n).map(|i| block(6, 2 * i + 1, (2 * i).saturating_sub(1))).collect::<Vec<_>>();
     let run = |name, slots, before: &Vec<Vec<u8>>, timed| Run { name, slots, before: before.clone(), timed, stops: false };
+    let starts = |name, differs| Run { name, slots: 1024, before: vec![], timed: vec![start_with(MEMBERS, 0, differs); 200], stops: true };
     vec![
         run("VOTE, 100,000 over 64 members", 256, &begin, by_round(100_000, &vote)),
         run("PROPOSE, a chain of 1,024 at 1,024 slots", 1024, &begin, chain(2, 1024)),
@@ -155,7 +164,8 @@ fn runs() -> Vec<Run> {
         run("TC of 43 entries", 256, &begin, (1..=20_000).map(|r| [&5u16.to_le_bytes()[..], &tc(r, 0)].concat()).collect()),
         run("TICK, one member: TC and MAKE", 256, &vec![start(1, 0)], vec![vec![7, 0]; 20_000]),
         run("TICK, 64 members: REUSE", 256, &begin, vec![vec![7, 0]; 20_000]),
-        Run { name: "START, 64 members, 1,024 slots cleared", slots: 1024, before: vec![], timed: vec![begin[0].clone(); 200], stops: true },
+        starts("START, 64 members, 1,024 slots cleared", FIRST),
+        starts("START, keys that differ in their last byte", LAST),
         run("VOTE, STALE", 256, &[begin.clone(), vec![[&5u16.to_le_bytes()[..], &tc(9, 0)].concat()]].concat(), vec![vote(1, 0); 20_000]),
         run("a bad record", 256, &begin, vec![[&vote(1, 0)[..44], &[2]].concat(); 20_000]),
     ]
