@@ -3,7 +3,7 @@
 --     step-slots       the table keeps its length
 -- Assumes nothing.
 use Prim.Native.Nat.{ℕ, _+_, _*_, _≤_}
-use mathlib.Core.List.{List, [], _∷_, _++_, map}
+use mathlib.Core.List.{List, [], _∷_, _++_, map, append-nil}
 use mathlib.Core.Path.{_≡_, refl}
 use native.Mathlib.Omega.{arith}
 use borrow.Author.Tests.{eqb-true, eqb-false}
@@ -45,14 +45,13 @@ use Rattle.handlers.specs.Votes.{voteCheck, mayVote, handledVote, ownVote, vote
 use Rattle.handlers.specs.Timeouts.{timeoutCheck, staleIf, timeoutTaken, timeoutWith, handledTimeout, tcTaken, tcWith, handledTC, ownTimeout, handledTick, handleTimeoutMost, handleTCMost, localTimeoutMost}
 use Rattle.handlers.specs.Proposals.{Proposal, proposalCheck, advancedTC, taken, byPayload, proposalWith, proposalOf, takenMost}
 use Rattle.synchronizer.specs.declared.table.Slot.{Slot}
-use Rattle.synchronizer.specs.declared.ancestors.Ancestors.{Ancestors}
 use Rattle.synchronizer.specs.declared.settle.Work.{Work}
 use Rattle.synchronizer.specs.Table.{placeOf, ancestorsOf}
 use Rattle.synchronizer.specs.Settle as settle
-use Rattle.synchronizer.specs.Settle.{isTwoChain, cleanOf, commitIf, commitRec, linkedOf, waitOf, processedBy, processedOf, settledOf, cleanMost, settleMost}
+use Rattle.synchronizer.specs.Settle.{isTwoChain, cleanOf, commitIf, commitRec, linkedOf, waitOf, asking, processedBy, processedOf, settledOf, cleanMost, settleMost}
 use Rattle.synchronizer.proofs.Lent.{by-cases}
 use Rattle.synchronizer.proofs.TableLaws.{cleared-length}
-use Rattle.synchronizer.proofs.SettleLaws.{commits-fit, settled-length, settled-silent, settled-block}
+use Rattle.synchronizer.proofs.SettleLaws.{commits-fit, processed-waits, wait-none, settled-length, settled-silent, settled-block}
 use Rattle.replica.specs.Started.{roomFor, roomy}
 use Rattle.replica.specs.Blocks.{settledFor, afterSettled, processed, processedTable, goingOn, goingOnTable}
 use Rattle.replica.specs.Step.{World, announced, begunBy, begun, committee, handled, started, sizedIn, onStart, onOther, onKind, stepped, announcedMost}
@@ -229,11 +228,6 @@ clean-size b0 b1 b =
     (λ e. rw e (size-both (cleanProposer _ _ _ ∷ []) (cleanMempool _ ∷ []) 100 12 (size-one (cleanProposer _ _ _) 100 (lit≤ tt)) (size-one (cleanMempool _) 12 (lit≤ tt))))
     (λ e. rw e (size-both (cleanProposer _ _ _ ∷ []) [] 100 12 (size-one (cleanProposer _ _ _) 100 (lit≤ tt)) (size-none 12)))
 
-wait-size : (w : Work) (a : Ancestors) → size (waitOf w a) ≤ cleanMost
-unfolding waitOf
-wait-size w a =
-    by-cases (eqb (a .answer) waitParent) (λ e. rw e (size-one (sync _ _ _) cleanMost (lit≤ tt))) (λ e. rw e (size-none cleanMost))
-
 commits-size : (bs : List Slot) → size (map commitRec bs) ≡ commitSize * length bs
 commits-size bs = length-each commitRec commitSize (λ b. length-enc (commitRec b)) bs
 
@@ -250,12 +244,24 @@ processed-size t w =
     (λ e. by-cases (ltb (placeOf t (w .block)) (length t))
     (λ f. rw (e, f) (linked-size _ _ _ _ _ (length t) (commits-fit t (w .block) (w .last .0) (eqb-true _ _ e))))
     (λ f. rw (e, f) (size-none (settleMost (length t)))))
-    (λ e. rw e (size-less _ cleanMost (settleMost (length t)) (omega arith) (wait-size w _)))
+    (λ e. rw e (size-none (settleMost (length t))))
+
+-- where a block waits, SYNC is all that is written
+wait-size : (w : Work) → size (waitOf w waitParent) ≤ cleanMost
+unfolding waitOf
+wait-size w = size-one (sync _ _ _) cleanMost (lit≤ tt)
+
+asking-size : (t : List Slot) (w : Work) → size (asking w (processedOf t w) .outs) ≤ settleMost (length t)
+asking-size t w =
+    by-cases (eqb (processedOf t w .answer) waitParent)
+    (λ e. let z : processedOf t w .answer ≡ waitParent = eqb-true _ _ e in
+    rw (processed-waits t w z, z) (size-less _ cleanMost (settleMost (length t)) (omega arith) (wait-size w)))
+    (λ e. rw (wait-none w (processedOf t w .answer) e, append-nil) (processed-size t w))
 
 settled-size : (t : List Slot) (w : Work) → size (settledOf t w .outs) ≤ settleMost (length t)
 settled-size t w =
     by-cases (eqb (w .does) settle.block)
-    (λ e. rw (settled-block t w (eqb-true _ _ e)) (processed-size t w))
+    (λ e. rw (settled-block t w (eqb-true _ _ e)) (asking-size t w))
     (λ e. rw (settled-silent t w (eqb-false _ _ e)) (size-none (settleMost (length t))))
 
 -- ---- blocks

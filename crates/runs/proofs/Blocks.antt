@@ -23,11 +23,10 @@ use Rattle.trace.specs.declared.events.Block.{Block}
 use Rattle.outputs.specs.Records.{Rec, sync, cleanProposer, cleanMempool}
 use Rattle.aggregator.specs.Tallies.{votesLength, timeoutsLength}
 use Rattle.synchronizer.specs.declared.table.Slot.{Slot}
-use Rattle.synchronizer.specs.declared.ancestors.Ancestors.{Ancestors}
 use Rattle.synchronizer.specs.declared.settle.Work.{Work}
 use Rattle.synchronizer.specs.Table.{placeOf, stored, ancestorsOf}
 use Rattle.synchronizer.specs.Walk.{Walk, refused as stopped, delivers, walkOf, committedBy, commitOf, noCommit}
-use Rattle.synchronizer.specs.Settle.{Settlement, answered, isTwoChain, cleanOf, commitIf, commitRec, linkedOf, waitOf, processedBy, processedOf}
+use Rattle.synchronizer.specs.Settle.{Settlement, answered, isTwoChain, cleanOf, commitIf, commitRec, linkedOf, processedBy, processedOf, waitOf, asking}
 use Rattle.synchronizer.proofs.WalkLaws.{Rising, commit-rising}
 use Rattle.synchronizer.proofs.SettleLaws.{settled-block}
 use Rattle.moves.specs.declared.state.Core.{Core}
@@ -77,9 +76,9 @@ silent-clean b0 b1 b = cases (isTwoChain b0 b1)
     cases true = record { signs = refl; delivers = refl }
     cases false = record { signs = refl; delivers = refl }
 
-silent-wait : (w : Work) (a : Ancestors) → Silent (waitOf w a)
+silent-wait : (w : Work) (n : ℕ) → Silent (waitOf w n)
 unfolding waitOf only
-silent-wait w a = cases (eqb (a .answer) waitParent)
+silent-wait w n = cases (eqb n waitParent)
   where
     cases : (t : Bool) → Silent (cond t (sync (w .block .parent) (w .block .digest) (w .author .0) ∷ []) [])
     cases true = record { signs = refl; delivers = refl }
@@ -132,16 +131,28 @@ settled-by t w = cases (eqb (ancestorsOf t (w .block) .answer) 0) refl (ltb (pla
   where
     cases : (u : Bool) → eqb (ancestorsOf t (w .block) .answer) 0 ≡ u → (v : Bool) → Settled (w .block) t (w .last .0)
         (cond u (cond v (linkedOf (stored t (w .block)) (w .block) (ancestorsOf t (w .block) .b0) (ancestorsOf t (w .block) .b1) (w .last .0)) (answered tableFull t (w .last .0) []))
-        (answered (ancestorsOf t (w .block) .answer) t (w .last .0) (waitOf w (ancestorsOf t (w .block)))))
+        (answered (ancestorsOf t (w .block) .answer) t (w .last .0) []))
     cases true e true = settled-linked t (w .block) (w .last .0) (eqb-true _ _ e)
     cases true e false = settled-none tableFull (w .block) t (w .last .0) [] silent-none
-    cases false e v = settled-none (ancestorsOf t (w .block) .answer) (w .block) t (w .last .0) (waitOf w (ancestorsOf t (w .block))) (silent-wait w (ancestorsOf t (w .block)))
+    cases false e v = settled-none (ancestorsOf t (w .block) .answer) (w .block) t (w .last .0) [] silent-none
+
+-- SYNC neither signs nor delivers
+settled-asking : (w : Work) (t : List Slot) (p : Settlement) → Settled (w .block) t (w .last .0) p → Settled (w .block) t (w .last .0) (asking w p)
+settled-asking w t p h =
+    let c = silent-wait w (p .answer) in
+    record {
+      signs = only-append isSigned (p .outs) (waitOf w (p .answer)) ∙ rw (h .signs, c .signs);
+      blocks = h .blocks;
+      are = only-append isCommit (p .outs) (waitOf w (p .answer)) ∙ rw (c .delivers) (append-nil _ ∙ h .are);
+      by = h .by;
+      stores = h .stores;
+    }
 
 pub settled-for : (s : State) (t : List Slot) (b : Block) → Settled (slotFor b) t (committedIn (s .core)) (settledFor s t b)
 unfolding settledFor
 settled-for s t b =
     let w = workFor b (s .core .«last_committed_round») 0 in
-    rw (settled-block t w refl) (settled-by t w)
+    rw (settled-block t w refl) (settled-asking w t (processedOf t w) (settled-by t w))
 
 -- ---- what is delivered
 

@@ -34,7 +34,7 @@ use Rattle.outputs.specs.Records.{Rec, vote, make, commit, cleanProposer, clean
 use Rattle.aggregator.specs.Tallies.{findRow, findFree, findHeavy, heavy, dropped, placeFor, tableFor, added, after, voteAdded, votesAfter}
 use Rattle.aggregator.specs.Tally.{isVote, kept, newVote, noHigh, withAuthor, answerOf}
 use Rattle.synchronizer.specs.Table.{blank, fits, lowest, placeOf, stored, cleared, parentOf, ancestorsOf}
-use Rattle.synchronizer.specs.Settle.{isTwoChain, cleanOf, commitIf, linkedOf, processedBy, settledOf}
+use Rattle.synchronizer.specs.Settle.{isTwoChain, cleanOf, commitIf, linkedOf, processedBy, waitOf, settledOf}
 use Rattle.synchronizer.specs.Walk.{onParent, walkFrom, walkOf, commitOf}
 use Rattle.moves.specs.Moves.{advanced, raised, takenQC, makeOf, certified}
 use Rattle.moves.specs.Tallied.{voteTallied}
@@ -48,7 +48,7 @@ use Rattle.runs.specs.Signed.{Members, Signed, Certificate, qcBytes}
 
 -- every definition that a step rests on: who unfolds this one unfolds them all
 definitions : ℕ
-unfolding sum stakeOf quorumFrom quorumOf limited setupOf leaderOf isGenesis verdictIn countOf placesIn isWhole unknownTo settledList checkFrom checkPart qcCheck equalsGenesis embeddedCheck authorCheck le numAt hashAt numsAt bitOf sumAt isIn stakeIn signersFrom signersOf weightOf member stakeOn memberCount ownPlace stakesIn keyAt keysFrom keysIn below ascending setupAt padded loadedStakes voteOf tcRoundOf tcHighOf blockOf blockMarks anyAbove isFormed formOf qcPart flagAt tcAt blockEnd payloadOf blockCounts blockRounds limitOf digits hashBytes bytesOf placesFrom placesOf findRow findFree findHeavy heavy dropped placeFor tableFor added after voteAdded votesAfter isVote kept newVote noHigh withAuthor answerOf isTwoChain cleanOf commitIf linkedOf processedBy settledOf fits lowest placeOf stored cleared parentOf ancestorsOf onParent walkFrom walkOf commitOf advanced raised takenQC makeOf certified voteTallied leaderCheck tcNumber proposalCheck advancedTC taken payloadNumber byPayload proposalWith proposalOf voteCheck handledVote extends mayVote ownVote voted voting settledFor afterSettled processed processedTable goingOn goingOnTable sized shaped startedOf roomy newStakes announced begun stepped worldAfter outsOf qcBytes ones
+unfolding sum stakeOf quorumFrom quorumOf limited setupOf leaderOf isGenesis verdictIn countOf placesIn isWhole unknownTo settledList checkFrom checkPart qcCheck equalsGenesis embeddedCheck authorCheck le numAt hashAt numsAt bitOf sumAt isIn stakeIn signersFrom signersOf weightOf member stakeOn memberCount ownPlace stakesIn keyAt keysFrom keysIn below ascending setupAt padded loadedStakes voteOf tcRoundOf tcHighOf blockOf blockMarks anyAbove isFormed formOf qcPart flagAt tcAt blockEnd payloadOf blockCounts blockRounds limitOf digits hashBytes bytesOf placesFrom placesOf findRow findFree findHeavy heavy dropped placeFor tableFor added after voteAdded votesAfter isVote kept newVote noHigh withAuthor answerOf isTwoChain cleanOf commitIf linkedOf processedBy waitOf settledOf fits lowest placeOf stored cleared parentOf ancestorsOf onParent walkFrom walkOf commitOf advanced raised takenQC makeOf certified voteTallied leaderCheck tcNumber proposalCheck advancedTC taken payloadNumber byPayload proposalWith proposalOf voteCheck handledVote extends mayVote ownVote voted voting settledFor afterSettled processed processedTable goingOn goingOnTable sized shaped startedOf roomy newStakes announced begun stepped worldAfter outsOf qcBytes ones
 definitions = 0
 
 -- ---- records

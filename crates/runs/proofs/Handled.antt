@@ -37,7 +37,7 @@ use Rattle.synchronizer.specs.declared.table.Slot.{Slot}
 use Rattle.synchronizer.specs.declared.settle.Work.{Work}
 use Rattle.synchronizer.specs.declared.ancestors.Ancestors.{Ancestors}
 use Rattle.synchronizer.specs.Table.{placeOf, stored, cleared, ancestorsOf}
-use Rattle.synchronizer.specs.Settle.{Settlement, answered, isTwoChain, cleanOf, commitIf, commitRec, linkedOf, waitOf, processedBy, settledOf}
+use Rattle.synchronizer.specs.Settle.{Settlement, answered, isTwoChain, cleanOf, commitIf, commitRec, linkedOf, processedBy, processedOf, waitOf, asking, settledOf}
 use Rattle.moves.specs.State.{State, withCore, withVoted}
 use Rattle.moves.specs.Outcome.{Outcome, quiet, done, after, refused, checked}
 use Rattle.moves.specs.Moves.{advanced, makeWithOf}
@@ -230,9 +230,9 @@ module _ (m : List ℕ) where
   unfolding linkedOf
   linked t b b0 b1 last = every-append (cleans b0 b1 b) (commits (commitIf t b0 b1 last .blocks))
 
-  waits : (w : Work) (a : Ancestors) → Every (Sends m) (waitOf w a)
+  waits : (w : Work) (n : ℕ) → Every (Sends m) (waitOf w n)
   unfolding waitOf
-  waits w a = cases (eqb (a .answer) 2)
+  waits w n = cases (eqb n 2)
     where
       cases : (c : Bool) → Every (Sends m) (cond c (sync (w .block .parent) (w .block .digest) (w .author .0) ∷ []) [])
       cases true = more {a = sync (w .block .parent) (w .block .digest) (w .author .0)} tt none
@@ -243,17 +243,17 @@ module _ (m : List ℕ) where
   blocks t w a = cases (eqb (a .answer) 0) (ltb (placeOf t (w .block)) (length t))
     where
       cases : (c d : Bool)
-          → Every (Sends m) (cond c (cond d (linkedOf (stored t (w .block)) (w .block) (a .b0) (a .b1) (w .last .0)) (answered 28 t (w .last .0) [])) (answered (a .answer) t (w .last .0) (waitOf w a)) .outs)
+          → Every (Sends m) (cond c (cond d (linkedOf (stored t (w .block)) (w .block) (a .b0) (a .b1) (w .last .0)) (answered 28 t (w .last .0) [])) (answered (a .answer) t (w .last .0) []) .outs)
       cases true true = linked (stored t (w .block)) (w .block) (a .b0) (a .b1) (w .last .0)
       cases true false = none
-      cases false d = waits w a
+      cases false d = none
 
   settles : (t : List Slot) (w : Work) → Every (Sends m) (settledOf t w .outs)
   unfolding settledOf
   settles t w = cases (eqb (w .does) 2) (eqb (w .does) 1)
     where
-      cases : (c d : Bool) → Every (Sends m) (cond c (processedBy t w (ancestorsOf t (w .block))) (cond d (answered 0 (cleared t) (w .last .0) []) (answered 0 t (w .last .0) [])) .outs)
-      cases true d = blocks t w (ancestorsOf t (w .block))
+      cases : (c d : Bool) → Every (Sends m) (cond c (asking w (processedOf t w)) (cond d (answered 0 (cleared t) (w .last .0) []) (answered 0 t (w .last .0) [])) .outs)
+      cases true d = every-append (blocks t w (ancestorsOf t (w .block))) (waits w (processedOf t w .answer))
       cases false true = none
       cases false false = none
 

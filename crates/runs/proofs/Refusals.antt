@@ -35,7 +35,7 @@ use Rattle.synchronizer.specs.declared.ancestors.Parent.{Parent}
 use Rattle.synchronizer.specs.declared.settle.Work.{Work}
 use Rattle.synchronizer.specs.Table.{placeOf, stored, parentOf, ancestorsBy, ancestorsOf}
 use Rattle.synchronizer.specs.Walk.{Walk, refused as stopped, delivers, andNewer, onParent, walkFrom, walkOf, committedBy, commitOf, noCommit}
-use Rattle.synchronizer.specs.Settle.{answered, isTwoChain, commitIf, linkedOf, waitOf, processedBy, processedOf}
+use Rattle.synchronizer.specs.Settle.{answered, isTwoChain, commitIf, linkedOf, processedBy, processedOf}
 use Rattle.synchronizer.proofs.SettleLaws.{settled-block}
 use Rattle.moves.specs.State.{State, withCore, withVoted}
 use Rattle.moves.specs.Outcome.{Outcome, quiet, done, after, refused}
@@ -215,7 +215,7 @@ processed-of-keeping t w = cases (eqb (ancestorsOf t (w .block) .answer) 0) (ltb
   where
     cases : (u v : Bool) → Keeping
         (cond u (cond v (linkedOf (stored t (w .block)) (w .block) (ancestorsOf t (w .block) .b0) (ancestorsOf t (w .block) .b1) (w .last .0)) (answered tableFull t (w .last .0) []))
-        (answered (ancestorsOf t (w .block) .answer) t (w .last .0) (waitOf w (ancestorsOf t (w .block)))) .answer)
+        (answered (ancestorsOf t (w .block) .answer) t (w .last .0) []) .answer)
     cases true true = linked-keeping (stored t (w .block)) (w .block) (ancestorsOf t (w .block) .b0) (ancestorsOf t (w .block) .b1) (w .last .0)
     cases true false = refl
     cases false v = ancestors-keeping (parentOf t (w .block)) (parentOf t (parentOf t (w .block) .slot))

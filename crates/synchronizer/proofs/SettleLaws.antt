@@ -1,9 +1,10 @@
 -- Laws of `specs/Settle.antt` and of the parts of it in `specs/Parts.antt`.
 --     commits-fit              at most as many COMMITs as slots: after the store b1's slot or b0's is still there, and neither is below b0
---     next-.., two-.., head-.., by-..    the ways out of the functions on values
+--     next-.., two-.., head-.., by-.., asks-..    the ways out of the functions on values
 --     admit-..                 a block's ancestors and its store
 --     conclude-..              what follows the store
 --     process-..               a block
+--     processed-waits          a block that waits for its parent has written nothing
 --     settle-..                an event
 --     settled-.., processed-.. what a settlement is, case by case
 --     settles-unique           the outcome is determined
@@ -19,9 +20,9 @@ use lib.Seq.{getD-set-other, set-out}
 use borrow.Author.Tests.{lt-ltb, le-ltb, ltb-false, eq-eqb, ne-eqb, eqb-true, eqb-false, not-true, not-false}
 use Rattle.certificates.specs.declared.numbers.Place.{Place}
 use Rattle.certificates.specs.declared.numbers.Round.{Round}
-use Rattle.outputs.specs.Records.{Rec, enc, sync, cleanProposer, cleanMempool, commitSize, syncSize, cleanProposerSize, cleanMempoolSize}
+use Rattle.outputs.specs.Records.{Rec, enc, encAll, sync, cleanProposer, cleanMempool, commitSize, syncSize, cleanProposerSize, cleanMempoolSize}
 use Rattle.outputs.specs.Put.{Put, Wrote}
-use Rattle.outputs.proofs.Wrote.{wrote-none, wrote-one, wrote-then, wrote-more}
+use Rattle.outputs.proofs.Wrote.{all-none, wrote-none, wrote-one, wrote-then, wrote-more}
 use Rattle.synchronizer.specs.declared.table.Slot.{Slot}
 use Rattle.synchronizer.specs.declared.ancestors.Parent.{Parent}
 use Rattle.synchronizer.specs.declared.ancestors.Ancestors.{Ancestors}
@@ -32,12 +33,12 @@ use Rattle.synchronizer.specs.declared.settle.Settled.{Settled}
 use Rattle.certificates.specs.Error.{waitParent, tableFull}
 use Rattle.synchronizer.specs.Table.{slotAt, blank, placeOf, stored, storeAnswer, cleared, genesis, parentOf, ancestorsOf, ancestorsBy}
 use Rattle.synchronizer.specs.Walk.{noCommit, commitOf, chainOf}
-use Rattle.synchronizer.specs.Settle.{Settlement, answered, isTwoChain, cleanOf, commitIf, commitRec, linkedOf, waitOf, processedBy, processedOf, settledOf, cleanMost, settleMost, RoomFor, Settles}
+use Rattle.synchronizer.specs.Settle.{Settlement, answered, isTwoChain, cleanOf, commitIf, commitRec, linkedOf, waitOf, asking, processedBy, processedOf, settledOf, cleanMost, settleMost, RoomFor, Settles}
 use Rattle.synchronizer.specs.Settle as spec
-use Rattle.synchronizer.specs.Parts.{countOf, Admits, toCommit, concludedOf, CommitsFit, Heads, settledBy}
+use Rattle.synchronizer.specs.Parts.{countOf, Admits, toCommit, concludedOf, CommitsFit, Heads, settledBy, RoomToAsk, Asks}
 use Rattle.synchronizer.proofs.Lent.{by-cases}
 use Rattle.synchronizer.proofs.TableLaws.{stored-length, cleared-length}
-use Rattle.synchronizer.proofs.WalkLaws.{below, below-some, InTable, parent-in, commit-size, commit-chain, commit-genesis}
+use Rattle.synchronizer.proofs.WalkLaws.{below, below-some, InTable, parent-in, commit-size, commit-chain, commit-genesis, commit-never-waits}
 
 -- ---- the ways out of the functions on values
 
@@ -81,15 +82,8 @@ module _ (w : Work) (a : Ancestors) (c : Walked) where
       → Heads w a c before (record { left = c .blocks; at = next; block = a .b0 }) after
   head-stored z p = record { left = refl; block = refl; bytes = rw z p }
 
-  pub head-waits : {before after : List ℕ} {next : ℕ} → a .answer ≡ waitParent → Put before (w .at) syncSize (enc (sync (w .block .parent) (w .block .digest) (w .author .0))) after next
-      → Heads w a c before (record { left = c .blocks; at = next; block = a .b0 }) after
-  unfolding waitOf
-  head-waits z p =
-      record { left = refl; block = refl; bytes = rw z (wrote-more (wrote-one (sync (w .block .parent) (w .block .digest) (w .author .0)) p) (omega arith)) }
-
-  pub head-none : (before : List ℕ) → (a .answer ≡ 0 → ⊥) → (a .answer ≡ waitParent → ⊥) → Heads w a c before (record { left = c .blocks; at = w .at; block = a .b0 }) before
-  unfolding waitOf
-  head-none before m n = record { left = refl; block = refl; bytes = rw (ne-eqb _ _ m, ne-eqb _ _ n) (wrote-none cleanMost before (w .at)) }
+  pub head-none : (before : List ℕ) → (a .answer ≡ 0 → ⊥) → Heads w a c before (record { left = c .blocks; at = w .at; block = a .b0 }) before
+  head-none before n = record { left = refl; block = refl; bytes = rw (ne-eqb _ _ n) (wrote-none cleanMost before (w .at)) }
 
 module _ (w : Work) (a : Ancestors) (c : Walked) (t : Chain) (at : ℕ) (e : at ≡ t .at + commitSize * t .left) where
   pub by-refusal : (a .answer ≡ 0 → ⊥) → _≡_ {A = Settled} (record { answer = a .answer; last = w .last; at = at }) (settledBy w a c t)
@@ -100,6 +94,19 @@ module _ (w : Work) (a : Ancestors) (c : Walked) (t : Chain) (at : ℕ) (e : at 
 
   pub by-none : a .answer ≡ 0 → c .blocks ≤ 0 → _≡_ {A = Settled} (record { answer = c .answer; last = w .last; at = at }) (settledBy w a c t)
   by-none z h = rw (e, z, le-ltb _ _ h)
+
+pub asks-room : (s : Settled) {k : ℕ} → RoomToAsk s k → s .answer ≡ waitParent → s .at + syncSize ≤ k
+asks-room s h z = h z
+
+module _ (w : Work) (s : Settled) where
+  pub asks-sync : {before after : List ℕ} {next : ℕ} → s .answer ≡ waitParent → Put before (s .at) syncSize (enc (sync (w .block .parent) (w .block .digest) (w .author .0))) after next
+      → Asks w s before (record { answer = s .answer; last = s .last; at = next }) after
+  unfolding waitOf
+  asks-sync z p = record { answer = refl; last = refl; bytes = rw z (wrote-one (sync (w .block .parent) (w .block .digest) (w .author .0)) p) }
+
+  pub asks-none : (before : List ℕ) → (s .answer ≡ waitParent → ⊥) → Asks w s before s before
+  unfolding waitOf
+  asks-none before n = record { answer = refl; last = refl; bytes = rw (ne-eqb _ _ n) (wrote-none syncSize before (s .at)) }
 
 -- ---- at most as many COMMITs as slots
 
@@ -184,20 +191,14 @@ module _ (t : List Slot) (w : Work) (a : Ancestors) {before mid : List ℕ} (roo
         })
 
     -- it is not
-    unstored : eqb (a .answer) 0 ≡ false → Settles (answered (a .answer) t (w .last .0) (waitOf w a)) (settleMost (length t)) before (w .at) r t after
+    unstored : eqb (a .answer) 0 ≡ false → Settles (answered (a .answer) t (w .last .0) []) (settleMost (length t)) before (w .at) r t after
     unfolding chainOf
     unstored n =
         let is : c ≡ countOf (noCommit (w .last .0)) = counts ∙ rw (n, commit-genesis) in
         let none : ch .left ≡ 0 = head .left ∙ ap (λ (x : Walked). x .blocks) is in
-        let clean : Wrote cleanMost (waitOf w a) before (w .at) mid (ch .at) = rw n at (head .bytes) in
+        let clean : Wrote cleanMost [] before (w .at) mid (ch .at) = rw n at (head .bytes) in
         let rest : Wrote 0 [] mid (ch .at) after (ch .at + 0) = rw none at wrote in
-        rw (e, n, none) (record { answer = refl; last = refl; slots = refl; bytes = wrote-more (both clean rest) (omega arith) })
-      where
-        both : {k at m n : ℕ} {xs : List Rec} {a b d : List ℕ} → Wrote k xs a at b m → Wrote 0 [] b m d n → Wrote k xs a at d n
-        both {k} {at} {m} {n} {xs} {a} {b} {d} p q =
-            let w : Wrote (k + 0) (xs ++ []) a at d n = wrote-then p q in
-            let v : Wrote (k + 0) xs a at d n = rw append-nil at w in
-            wrote-more v (omega arith)
+        rw (e, n, none) (record { answer = refl; last = refl; slots = refl; bytes = wrote-more (wrote-then clean rest) (omega arith) })
 
     pub conclude-done : Settles (concludedOf t w a) (settleMost (length t)) before (w .at) r t after
     unfolding concludedOf
@@ -231,15 +232,6 @@ first-zero x n = by-cases (eqb x 0) (λ y. rw y (λ h. (eqb-true _ _ y, h))) (λ
 
 store-room : (i n : ℕ) → storeAnswer i n ≡ 0 → ltb i n ≡ true
 store-room i n = by-cases (ltb i n) (λ e. rw e (λ _. refl)) (λ e. rw e (λ z. absurd (omega arith)))
-
--- what waits is said by the answer alone
-wait-same : (w : Work) (a c : Ancestors) → a .answer ≡ c .answer → waitOf w a ≡ waitOf w c
-unfolding waitOf
-wait-same w a c e = rw e
-
-wait-full : (w : Work) (a : Ancestors) → a .answer ≡ tableFull → waitOf w a ≡ []
-unfolding waitOf
-wait-full w a e = rw e
 
 module _ (t : List Slot) (w : Work) {a : Ancestors} {t′ : List Slot} (got : Admits t (w .block) a t′) where
   -- the block was stored, or the table is as it was
@@ -278,15 +270,69 @@ module _ (t : List Slot) (w : Work) {a : Ancestors} {t′ : List Slot} (got : Ad
           by-cases (ltb (placeOf t (w .block)) (length t))
           (λ q. let z : a .answer ≡ 0 = got .answer ∙ rw (y, q) in absurd (eqb-false (a .answer) 0 n z))
           (λ q. let z : a .answer ≡ tableFull = got .answer ∙ rw (y, q) in
-          let d : Settles (answered (a .answer) t′ (w .last .0) (waitOf w a)) (settleMost (length t′)) before (w .at) r t′ after = rw n at p in
-          rw (y, q) (record { answer = d .answer ∙ z; last = d .last; slots = got .slots ∙ rw n; bytes = rw (wait-full w a z, admitted-length) at (d .bytes) }))
+          let d : Settles (answered (a .answer) t′ (w .last .0) []) (settleMost (length t′)) before (w .at) r t′ after = rw n at p in
+          rw (y, q) (record { answer = d .answer ∙ z; last = d .last; slots = got .slots ∙ rw n; bytes = rw admitted-length at (d .bytes) }))
 
       -- an ancestor is absent
       short : eqb (a .answer) 0 ≡ false → eqb (ancestorsOf t (w .block) .answer) 0 ≡ false → Settles (processedBy t w (ancestorsOf t (w .block))) (settleMost (length t)) before (w .at) r t′ after
       short n y =
           let z : a .answer ≡ ancestorsOf t (w .block) .answer = got .answer ∙ rw y in
-          let d : Settles (answered (a .answer) t′ (w .last .0) (waitOf w a)) (settleMost (length t′)) before (w .at) r t′ after = rw n at p in
-          rw y (record { answer = d .answer ∙ z; last = d .last; slots = got .slots ∙ rw n; bytes = rw (wait-same w a (ancestorsOf t (w .block)) z, admitted-length) at (d .bytes) })
+          let d : Settles (answered (a .answer) t′ (w .last .0) []) (settleMost (length t′)) before (w .at) r t′ after = rw n at p in
+          rw y (record { answer = d .answer ∙ z; last = d .last; slots = got .slots ∙ rw n; bytes = rw admitted-length at (d .bytes) })
+
+-- ---- a block that waits
+
+-- a stored block does not
+linked-never-waits : (t : List Slot) (b b0 b1 : Slot) (last : ℕ) → linkedOf t b b0 b1 last .answer ≡ waitParent → ⊥
+unfolding linkedOf commitIf
+linked-never-waits t b b0 b1 last = by-cases (isTwoChain b0 b1) (λ e. rw e (commit-never-waits t b0 last)) (λ e. rw e (λ z. omega arith))
+
+-- so nothing was written
+pub processed-waits : (t : List Slot) (w : Work) → processedOf t w .answer ≡ waitParent → processedOf t w .outs ≡ []
+unfolding processedBy
+processed-waits t w =
+    by-cases (eqb (ancestorsOf t (w .block) .answer) 0)
+    (λ e. by-cases (ltb (placeOf t (w .block)) (length t))
+    (λ f. rw (e, f) (λ z. absurd (linked-never-waits (stored t (w .block)) (w .block) (ancestorsOf t (w .block) .b0) (ancestorsOf t (w .block) .b1) (w .last .0) z)))
+    (λ f. rw (e, f) (λ z. refl)))
+    (λ e. rw e (λ z. refl))
+
+-- what does not wait asks for nothing
+pub wait-none : (w : Work) (n : ℕ) → eqb n waitParent ≡ false → waitOf w n ≡ []
+unfolding waitOf
+wait-none w n e = rw e
+
+asking-linked : (w : Work) (t : List Slot) (b b0 b1 : Slot) (last : ℕ) → asking w (linkedOf t b b0 b1 last) ≡ linkedOf t b b0 b1 last
+asking-linked w t b b0 b1 last = rw (wait-none w (linkedOf t b b0 b1 last .answer) (ne-eqb _ _ (linked-never-waits t b b0 b1 last)), append-nil)
+
+wrote-nothing : {k at next : ℕ} {outs : List Rec} {before after : List ℕ} → outs ≡ [] → Wrote k outs before at after next → next ≡ at
+wrote-nothing {at = at} {next = next} e p =
+    let none : next ≡ at + length (encAll []) = rw e at (p .place) in
+    omega (arith, none, ap length all-none)
+
+module _ (t : List Slot) (w : Work) {before mid : List ℕ} {s : Settled} {t′ : List Slot} (p : Settles (processedOf t w) (settleMost (length t)) before (w .at) s t′ mid) where
+  -- where it waits, the place is the first one
+  waits-at : s .answer ≡ waitParent → s .at ≡ w .at
+  waits-at e = wrote-nothing (processed-waits t w (sym (p .answer) ∙ e)) (p .bytes)
+
+  pub ask-room : w .at + settleMost (length t) ≤ length before → length mid ≡ length before → RoomToAsk s (length mid)
+  ask-room h same e = omega (arith, waits-at e)
+
+  pub ask-done : {r : Settled} {after : List ℕ} → Asks w s mid r after → Settles (asking w (processedOf t w)) (settleMost (length t)) before (w .at) r t′ after
+  ask-done {r} {after} q =
+      let all = wrote-then (p .bytes) (q .bytes) in
+      record {
+        answer = q .answer ∙ p .answer;
+        last = ap (λ (x : Round). x .0) (q .last) ∙ p .last;
+        slots = p .slots;
+        bytes = rw (← p .answer) (record { place = all .place; stored = all .stored; room = room });
+      }
+    where
+      room : r .at ≤ w .at + settleMost (length t)
+      room =
+          by-cases (eqb (s .answer) waitParent)
+          (λ e. omega (arith, q .bytes .room, waits-at (eqb-true _ _ e)))
+          (λ e. omega (arith, p .bytes .room, wrote-nothing (wait-none w (s .answer) e) (q .bytes)))
 
 -- ---- an event
 
@@ -294,7 +340,7 @@ module _ (t : List Slot) (w : Work) {s : Bool} (block : s ≡ eqb (w .does) spec
   pub settle-room : (k : ℕ) → s ≡ true → RoomFor w (length t) k → w .at + settleMost (length t) ≤ k
   settle-room k y h = h (eqb-true (w .does) spec.block (sym block ∙ y))
 
-  pub settle-block : {r : Settled} {t′ : List Slot} {before after : List ℕ} → s ≡ true → Settles (processedOf t w) (settleMost (length t)) before (w .at) r t′ after
+  pub settle-block : {r : Settled} {t′ : List Slot} {before after : List ℕ} → s ≡ true → Settles (asking w (processedOf t w)) (settleMost (length t)) before (w .at) r t′ after
       → Settles (settledOf t w) (settleMost (length t)) before (w .at) r t′ after
   unfolding settledOf
   settle-block y p = rw (← block, y) p
@@ -319,13 +365,13 @@ module _ (t : List Slot) (w : Work) where
   unfolding settledOf
   settled-clear e = rw e
 
-  pub settled-block : w .does ≡ spec.block → settledOf t w ≡ processedOf t w
+  pub settled-block : w .does ≡ spec.block → settledOf t w ≡ asking w (processedOf t w)
   unfolding settledOf
   settled-block e = rw e
 
   -- a block whose ancestor is absent, one that finds no place, and one that is stored
   pub processed-short : (ancestorsOf t (w .block) .answer ≡ 0 → ⊥)
-      → processedOf t w ≡ answered (ancestorsOf t (w .block) .answer) t (w .last .0) (waitOf w (ancestorsOf t (w .block)))
+      → processedOf t w ≡ answered (ancestorsOf t (w .block) .answer) t (w .last .0) []
   unfolding processedBy
   processed-short n = rw (ne-eqb _ _ n)
 
@@ -338,6 +384,22 @@ module _ (t : List Slot) (w : Work) where
         → processedOf t w ≡ linkedOf (stored t (w .block)) (w .block) (ancestorsOf t (w .block) .b0) (ancestorsOf t (w .block) .b1) (w .last .0)
     unfolding processedBy
     processed-stored h = rw (z, lt-ltb _ _ h)
+
+  -- what the event gives then: SYNC only where the parent is absent
+  module _ (e : w .does ≡ spec.block) where
+    pub settled-short : (ancestorsOf t (w .block) .answer ≡ 0 → ⊥)
+        → settledOf t w ≡ answered (ancestorsOf t (w .block) .answer) t (w .last .0) (waitOf w (ancestorsOf t (w .block) .answer))
+    settled-short n = settled-block e ∙ ap (asking w) (processed-short n)
+
+    pub settled-full : ancestorsOf t (w .block) .answer ≡ 0 → length t ≤ placeOf t (w .block) → settledOf t w ≡ answered tableFull t (w .last .0) []
+    unfolding waitOf
+    settled-full z h = settled-block e ∙ ap (asking w) (processed-full z h)
+
+    pub settled-stored : ancestorsOf t (w .block) .answer ≡ 0 → placeOf t (w .block) < length t
+        → settledOf t w ≡ linkedOf (stored t (w .block)) (w .block) (ancestorsOf t (w .block) .b0) (ancestorsOf t (w .block) .b1) (w .last .0)
+    settled-stored z h =
+        settled-block e ∙ ap (asking w) (processed-stored z h)
+        ∙ asking-linked w (stored t (w .block)) (w .block) (ancestorsOf t (w .block) .b0) (ancestorsOf t (w .block) .b1) (w .last .0)
 
 -- the table is as long as before
 linked-length : (t : List Slot) (b b0 b1 : Slot) (last : ℕ) → linkedOf t b b0 b1 last .table ≡ t

@@ -41,9 +41,9 @@ use Rattle.synchronizer.specs.Table.{blank, slotAt, fits, lowest, wantAn
 use Rattle.synchronizer.specs.Walk.{commitOf, chainOf}
 use Rattle.synchronizer.specs.Settle as spec
 use Rattle.synchronizer.specs.Settle.{commitRec, processedOf, settledOf, cleanMost, settleMost, RoomFor, Settles}
-use Rattle.synchronizer.specs.Parts.{wantParent, parentBy, placed, setOut, walkOn, countOf, Admits, toCommit, concludedOf, settledBy, CommitsFit, Heads}
+use Rattle.synchronizer.specs.Parts.{wantParent, parentBy, placed, setOut, walkOn, countOf, Admits, toCommit, concludedOf, settledBy, CommitsFit, Heads, RoomToAsk, Asks}
 use Rattle.synchronizer.proofs.Lent.{Gives, AsShr, AsMut, at-name, use-plain, use-one, use-two}
-use Rattle.synchronizer.proofs.Row.{slot, want, parent, ancestors, trail, count, chain, work, settled, round, slot-makes, want-makes, parent-makes, ancestors-makes, trail-makes, count-makes, chain-makes, work-makes, round-makes}
+use Rattle.synchronizer.proofs.Row.{slot, want, parent, ancestors, trail, count, chain, work, settled, round, slot-makes, want-makes, parent-makes, ancestors-makes, trail-makes, count-makes, chain-makes, work-makes, settled-makes, round-makes}
 use Rattle.synchronizer.proofs.table.empty as empty-fn
 use Rattle.synchronizer.proofs.table.empty.Symbol.{name as #synchronizer·table·empty}
 use Rattle.synchronizer.proofs.table.meets as meets-fn
@@ -102,6 +102,8 @@ use Rattle.synchronizer.proofs.commit.write_commit as write-commit-fn
 use Rattle.synchronizer.proofs.commit.write_commit.Symbol.{name as #synchronizer·commit·write-commit}
 use Rattle.synchronizer.proofs.settle.write_head as write-head-fn
 use Rattle.synchronizer.proofs.settle.write_head.Symbol.{name as #synchronizer·settle·write-head}
+use Rattle.synchronizer.proofs.settle.ask_parent as ask-parent-fn
+use Rattle.synchronizer.proofs.settle.ask_parent.Symbol.{name as #synchronizer·settle·ask-parent}
 use Rattle.synchronizer.proofs.table.len_of as len-of-fn
 use Rattle.synchronizer.proofs.table.len_of.Symbol.{name as #synchronizer·table·len-of}
 use Rattle.synchronizer.proofs.table.slot_at as slot-at-fn
@@ -218,6 +220,9 @@ module _ {M : Type 1} (𝓤 : URA M) (H : Heap 𝓤) (A : Atoms 𝓤) (mem : Mem
 
   abbrev pub WriteHeadMet : Contract 𝓤
   WriteHeadMet = tripleOf 𝓤 H A write-head-fn.signature (write-head-fn.spec 𝓤 H A mem run)
+
+  abbrev pub AskParentMet : Contract 𝓤
+  AskParentMet = tripleOf 𝓤 H A ask-parent-fn.signature (ask-parent-fn.spec 𝓤 H A mem run)
 
   abbrev pub LenOfMet : Contract 𝓤
   LenOfMet = tripleOf 𝓤 H A len-of-fn.signature (len-of-fn.spec 𝓤 H A mem run)
@@ -440,6 +445,12 @@ module _ {M : Type 1} (𝓤 : URA M) (H : Heap 𝓤) (A : Atoms 𝓤) (mem : Mem
     write-head-use known b o m′ xs L w w-val w-is a a-val a-is k k-val k-is pre =
         use-one 𝓤 H A W fm #synchronizer·settle·write-head (sliceVal (b, o) m′ ∷ w-val ∷ a-val ∷ k-val ∷ []) (work ∷ ancestors ∷ count ∷ []) (work-makes 𝓤 H A, (ancestors-makes 𝓤 H A, (count-makes 𝓤 H A, tt))) (w, (a, (k, tt))) (w-val ∷ [], (a-val ∷ [], (k-val ∷ [], tt))) (w-is, (a-is, (k-is, tt))) chain (fact 𝓤 (w .at + cleanMost ≤ length xs)) (factI 𝓤 (w .at + cleanMost ≤ length xs) (emp 𝓤) pre) L 3 (λ r xs′. Heads w a k xs r xs′)
         (λ p. known (((L .lft p, tt), (L .share p, tt), tt, (at-name u8 b o (L .name p) xs, (w, (a, (k, tt)))), (sliceVal (b, o) m′ ∷ [], (w-val ∷ [], (a-val ∷ [], (k-val ∷ [], tt))))), tt))
+
+    pub ask-parent-use : Triple 𝓤 (𝓣 .C #synchronizer·settle·ask-parent) AskParentMet → (b o m′ : ℕ) (xs : List ℕ) {e : Item 𝓤} {after : List ℕ → Item 𝓤} → AsMut 𝓤 H A u8 b o m′ xs e after → (w : Work) (w-val : Val) → Is work w (w-val ∷ []) → (s : Settled) (s-val : Val) → Is settled s (s-val ∷ []) → RoomToAsk s (length xs)
+        → Gives 𝓤 H A (𝓣 .C) #synchronizer·settle·ask-parent (sliceVal (b, o) m′ ∷ w-val ∷ s-val ∷ []) e (λ z (x : Settled × List ℕ). (Asks w s xs (x .0) (x .1)) × ((length (x .1) ≡ m′) × Is settled (x .0) (z ∷ []))) (λ x. after (x .1))
+    ask-parent-use known b o m′ xs L w w-val w-is s s-val s-is pre =
+        use-one 𝓤 H A W fm #synchronizer·settle·ask-parent (sliceVal (b, o) m′ ∷ w-val ∷ s-val ∷ []) (work ∷ settled ∷ []) (work-makes 𝓤 H A, (settled-makes 𝓤 H A, tt)) (w, (s, tt)) (w-val ∷ [], (s-val ∷ [], tt)) (w-is, (s-is, tt)) settled (fact 𝓤 (RoomToAsk s (length xs))) (factI 𝓤 (RoomToAsk s (length xs)) (emp 𝓤) pre) L 2 (λ r xs′. Asks w s xs r xs′)
+        (λ p. known (((L .lft p, tt), (L .share p, tt), tt, (at-name u8 b o (L .name p) xs, (w, (s, tt))), (sliceVal (b, o) m′ ∷ [], (w-val ∷ [], (s-val ∷ [], tt)))), tt))
 
     pub len-of-use : Triple 𝓤 (𝓣 .C #synchronizer·table·len-of) LenOfMet → (b o m : ℕ) (ys : List Slot) {e : Item 𝓤} → AsShr 𝓤 H A slot b o m ys e
         → Gives 𝓤 H A (𝓣 .C) #synchronizer·table·len-of (sliceVal (b, o) m ∷ []) e (λ z (x : ℕ × Unit {0}). (x .0 ≡ length ys) × (Unit {0} × Is usize (x .0) (z ∷ []))) (λ _. e)

@@ -5,6 +5,7 @@
 --     walk-chain           what a walk delivers is the chain from its start, and is not empty
 --     walk-rises, commit-rising     the rounds of what is delivered rise from above the last committed one to that of the start
 --     commit-size, commit-chain, commit-genesis     the same of a commit; genesis is never committed
+--     commit-never-waits   a commit does not answer WAIT PARENT
 --     meantBy, Sound, heightOf      what a trail comes to, what holds of it, and a number that falls
 --     count-.., sound-.., height-..     the start of a count, and one parent more
 --     above-.., set-out-.., walk-..     the ways out of the functions on values
@@ -25,7 +26,7 @@ use Rattle.synchronizer.specs.declared.table.Slot.{Slot}
 use Rattle.synchronizer.specs.declared.ancestors.Parent.{Parent}
 use Rattle.synchronizer.specs.declared.commit.Trail.{Trail}
 use Rattle.synchronizer.specs.declared.commit.Walked.{Walked}
-use Rattle.certificates.specs.Error.{ancestorAbsent, roundNotBelow}
+use Rattle.certificates.specs.Error.{waitParent, ancestorAbsent, roundNotBelow}
 use Rattle.synchronizer.specs.Table.{slotAt, lowest, wantDigest, genesis, parentOf}
 use Rattle.synchronizer.specs.Walk.{Walk, refused, delivers, andNewer, onParent, walkFrom, walkOf, noCommit, committedBy, commitOf, chainOf}
 use Rattle.synchronizer.specs.Parts.{countOf, stopped, walking, setOut, walkOn}
@@ -305,6 +306,34 @@ commit-chain t b last =
 pub commit-genesis : (t : List Slot) (last : ℕ) → commitOf t genesis last ≡ noCommit last
 unfolding commitOf
 commit-genesis t last = rw (le-ltb last 0 (omega arith))
+
+-- ---- what a walk answers: never WAIT PARENT
+
+newer-answer : (b : Slot) (last : ℕ) (w : Walk) (c : Slot) → committedBy b last (andNewer w c) .answer ≡ committedBy b last w .answer
+newer-answer b last (refused n) c = refl
+newer-answer b last (delivers bs) c = refl
+
+parent-never-waits : (b c : Slot) (last : ℕ) (p : Parent) (w : Walk) → (committedBy b last w .answer ≡ waitParent → ⊥)
+    → committedBy b last (onParent c last p w) .answer ≡ waitParent → ⊥
+unfolding onParent
+parent-never-waits b c last p w h =
+    by-cases (p .found)
+    (λ e. by-cases (ltb (p .slot .round .0) (c .round .0))
+    (λ f. by-cases (ltb last (p .slot .round .0)) (λ g. rw (e, f, g, newer-answer) h) (λ g. rw (e, f, g) (λ z. omega arith)))
+    (λ f. rw (e, f) (λ z. omega arith)))
+    (λ e. rw e (λ z. omega arith))
+
+walk-never-waits : (n : ℕ) (t : List Slot) (b c : Slot) (last : ℕ) → committedBy b last (walkFrom n t c last) .answer ≡ waitParent → ⊥
+unfolding walkFrom
+walk-never-waits zero t b c last = λ z. omega arith
+walk-never-waits (suc n) t b c last =
+    by-cases (ltb (last + 1) (c .round .0))
+    (λ e. rw e (parent-never-waits b c last (parentOf t c) (walkFrom n t (parentOf t c .slot) last) (walk-never-waits n t b (parentOf t c .slot) last)))
+    (λ e. rw e (λ z. omega arith))
+
+pub commit-never-waits : (t : List Slot) (b : Slot) (last : ℕ) → commitOf t b last .answer ≡ waitParent → ⊥
+unfolding commitOf walkOf
+commit-never-waits t b last = by-cases (ltb last (b .round .0)) (λ e. rw e (walk-never-waits (suc (length t)) t b b last)) (λ e. rw e (λ z. omega arith))
 
 -- ---- counting a walk
 

@@ -10,15 +10,17 @@
 --     CommitsFit t w a k             what is then written has room in k bytes
 --     Heads w a c before r after     what is written before the COMMITs
 --     settledBy w a c t              how a block is settled, from its count and the chain of its COMMITs
+--     RoomToAsk s k                  k bytes have room for SYNC where the settlement s waits for a parent
+--     Asks w s before r after        SYNC behind a settlement s that waits
 use mathlib.Core.Path.{_≡_}
 use Prim.Native.Nat.{ℕ, _+_, _*_, _≤_}
 use mathlib.Core.Bool.{true, false, cond}
-use mathlib.Core.List.{List}
+use mathlib.Core.List.{List, []}
 use lib.Dec.{ltb, eqb}
 use lib.ListN.{length}
 use Rattle.certificates.specs.declared.numbers.Round.{Round}
 use Rattle.certificates.specs.Messages.{isGenesis}
-use Rattle.outputs.specs.Records.{commitSize}
+use Rattle.outputs.specs.Records.{commitSize, syncSize}
 use Rattle.outputs.specs.Put.{Wrote}
 use Rattle.synchronizer.specs.declared.table.Slot.{Slot}
 use Rattle.synchronizer.specs.declared.table.Want.{Want}
@@ -29,7 +31,7 @@ use Rattle.synchronizer.specs.declared.commit.Walked.{Walked}
 use Rattle.synchronizer.specs.declared.commit.Chain.{Chain}
 use Rattle.synchronizer.specs.declared.settle.Work.{Work}
 use Rattle.synchronizer.specs.declared.settle.Settled.{Settled}
-use Rattle.certificates.specs.Error.{ancestorAbsent, roundNotBelow}
+use Rattle.certificates.specs.Error.{waitParent, ancestorAbsent, roundNotBelow}
 use Rattle.synchronizer.specs.Table.{placeOf, stored, storeAnswer, genesis, ancestorsOf}
 use Rattle.synchronizer.specs.Walk.{Commit, commitOf}
 use Rattle.synchronizer.specs.Settle.{Settlement, answered, isTwoChain, cleanOf, linkedOf, waitOf, cleanMost, settleMost}
@@ -83,7 +85,7 @@ abbrev pub toCommit : Ancestors → Slot
 toCommit a = cond (eqb (a .answer) 0) (cond (isTwoChain (a .b0) (a .b1)) (a .b0) genesis) genesis
 
 unfoldable pub concludedOf : List Slot → Work → Ancestors → Settlement
-concludedOf t w a = cond (eqb (a .answer) 0) (linkedOf t (w .block) (a .b0) (a .b1) (w .last .0)) (answered (a .answer) t (w .last .0) (waitOf w a))
+concludedOf t w a = cond (eqb (a .answer) 0) (linkedOf t (w .block) (a .b0) (a .b1) (w .last .0)) (answered (a .answer) t (w .last .0) [])
 
 abbrev pub CommitsFit : List Slot → Work → Ancestors → ℕ → Type 0
 CommitsFit t w a k = (w .at + settleMost (length t) ≤ k) × (length (commitOf t (toCommit a) (w .last .0) .blocks) ≤ length t)
@@ -91,7 +93,7 @@ CommitsFit t w a k = (w .at + settleMost (length t) ≤ k) × (length (commitOf 
 pub record Heads (w : Work) (a : Ancestors) (c : Walked) (before : List ℕ) (r : Chain) (after : List ℕ) : Type 0 where
   pub left : r .left ≡ c .blocks
   pub block : r .block ≡ a .b0
-  pub bytes : Wrote cleanMost (cond (eqb (a .answer) 0) (cleanOf (a .b0) (a .b1) (w .block)) (waitOf w a)) before (w .at) after (r .at)
+  pub bytes : Wrote cleanMost (cond (eqb (a .answer) 0) (cleanOf (a .b0) (a .b1) (w .block)) []) before (w .at) after (r .at)
 
 abbrev pub settledBy : Work → Ancestors → Walked → Chain → Settled
 settledBy w a c t = record {
@@ -99,3 +101,11 @@ settledBy w a c t = record {
   last = cond (eqb (a .answer) 0) (cond (ltb 0 (c .blocks)) (t .block .round) (w .last)) (w .last);
   at = t .at + commitSize * t .left;
 }
+
+abbrev pub RoomToAsk : Settled → ℕ → Type 0
+RoomToAsk s k = s .answer ≡ waitParent → s .at + syncSize ≤ k
+
+pub record Asks (w : Work) (s : Settled) (before : List ℕ) (r : Settled) (after : List ℕ) : Type 0 where
+  pub answer : r .answer ≡ s .answer
+  pub last : r .last ≡ s .last
+  pub bytes : Wrote syncSize (waitOf w (s .answer)) before (s .at) after (r .at)

@@ -5,8 +5,9 @@
 --     commitIf t b0 b1 l     the commit of b0 where b1 follows it, l being the last committed round
 --     commitRec b            the COMMIT of a block
 --     linkedOf t b b0 b1 l   a block b that is stored, with its ancestors b1 and b0
---     waitOf w a             what is written where an ancestor is absent
---     processedOf t w        a block
+--     processedOf t w        a block, before its caller asks for a parent
+--     waitOf w n             what is written where a block was answered n
+--     asking w s             a block's settlement s, and what is written where it waits
 --     nothing, clear, block  what an event does: the numbers of `does`
 --     settledOf t w          an event
 --     cleanMost, settleMost n    the most bytes that are written before the COMMITs, and over a table of n slots
@@ -39,7 +40,8 @@ answered n t last outs = record { answer = n; table = t; last = last; outs = out
 
 -- ---- a block that is stored
 
--- "If b0.round+1 = b1.round": "A round plus 1 is exact and never wraps"
+-- "If b0.round+1 = b1.round": "A round plus 1 is exact and never wraps".
+-- Jolteon's commit rule: of two adjacent certified blocks b0 and b1 of consecutive rounds, b1.r = b0.r + 1, the first, b0, and all its ancestors are committed.
 unfoldable pub isTwoChain : Slot → Slot → Bool
 isTwoChain b0 b1 = eqb (b0 .round .0 + 1) (b1 .round .0)
 
@@ -47,7 +49,7 @@ isTwoChain b0 b1 = eqb (b0 .round .0 + 1) (b1 .round .0)
 unfoldable pub cleanOf : Slot → Slot → Slot → List Rec
 cleanOf b0 b1 b = cleanProposer (b0 .digest) (b1 .digest) (b .digest) ∷ cond (isTwoChain b0 b1) (cleanMempool (b0 .round .0) ∷ []) []
 
--- "commit b0"
+-- "commit b0": the ancestors of b0 that are above last committed are delivered with it
 unfoldable pub commitIf : List Slot → Slot → Slot → ℕ → Commit
 commitIf t b0 b1 last = cond (isTwoChain b0 b1) (commitOf t b0 last) (noCommit last)
 
@@ -61,21 +63,27 @@ linkedOf t b b0 b1 last =
 
 -- ---- a block
 
--- "if absent, SYNC and WAIT PARENT. b0 likewise from b1, but absent gives 30 and no SYNC"
-unfoldable pub waitOf : Work → Ancestors → List Rec
-waitOf w a = cond (eqb (a .answer) waitParent) (sync (w .block .parent) (w .block .digest) (w .author .0) ∷ []) []
-
--- "Both stay as found here. Store, replacing an equal digest.", "28 | new digest, no empty slot"
+-- "Both stay as found here. Store, replacing an equal digest.", "28 | new digest, no empty slot". A block that is not stored writes nothing here.
 unfoldable pub processedBy : List Slot → Work → Ancestors → Settlement
 processedBy t w a =
     cond (eqb (a .answer) 0)
     (cond (ltb (placeOf t (w .block)) (length t))
     (linkedOf (stored t (w .block)) (w .block) (a .b0) (a .b1) (w .last .0))
     (answered tableFull t (w .last .0) []))
-    (answered (a .answer) t (w .last .0) (waitOf w a))
+    (answered (a .answer) t (w .last .0) [])
 
 abbrev pub processedOf : List Slot → Work → Settlement
 processedOf t w = processedBy t w (ancestorsOf t (w .block))
+
+-- ---- a block that waits
+
+-- "if absent, SYNC and WAIT PARENT. b0 likewise from b1, but absent gives 30 and no SYNC"
+unfoldable pub waitOf : Work → ℕ → List Rec
+waitOf w n = cond (eqb n waitParent) (sync (w .block .parent) (w .block .digest) (w .author .0) ∷ []) []
+
+-- SYNC is written by who settles the event, behind what the block wrote
+abbrev pub asking : Work → Settlement → Settlement
+asking w s = answered (s .answer) (s .table) (s .last) (s .outs ++ waitOf w (s .answer))
 
 -- ---- an event
 
@@ -89,7 +97,7 @@ abbrev pub block : ℕ
 block = 2
 
 unfoldable pub settledOf : List Slot → Work → Settlement
-settledOf t w = cond (eqb (w .does) block) (processedOf t w) (cond (eqb (w .does) clear) (answered 0 (cleared t) (w .last .0) []) (answered 0 t (w .last .0) []))
+settledOf t w = cond (eqb (w .does) block) (asking w (processedOf t w)) (cond (eqb (w .does) clear) (answered 0 (cleared t) (w .last .0) []) (answered 0 t (w .last .0) []))
 
 -- ---- what code did
 

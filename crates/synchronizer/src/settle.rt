@@ -27,7 +27,7 @@ ghost use Rattle.outputs.specs.Records.{commitSize};
 ghost use Rattle.outputs.specs.Put.{Wrote};
 ghost use Rattle.synchronizer.specs.Settle.{isTwoChain, cleanOf, processedOf, settledOf, cleanMost, settleMost, RoomFor, Settles};
 ghost use Rattle.synchronizer.specs.Settle as spec;
-ghost use Rattle.synchronizer.specs.Parts.{Admits, toCommit, concludedOf, CommitsFit, Heads, settledBy};
+ghost use Rattle.synchronizer.specs.Parts.{Admits, toCommit, concludedOf, CommitsFit, Heads, settledBy, RoomToAsk, Asks};
 
 // What an event does with the table: it clears it, it brings a block, or it does nothing.
 pub const NOTHING: u8 = 0;
@@ -171,8 +171,8 @@ pub(crate) fn write_clean(out: &mut [u8], w: Work, a: Ancestors) -> usize
     mid
 }
 
-// Writes what comes before the COMMITs: of a stored block the cleanup, and else SYNC where the parent
-// is absent. It answers the chain of the COMMITs.
+// Writes what comes before the COMMITs of a stored block: the cleanup. Of a block that is not stored it
+// writes nothing. It answers the chain of the COMMITs.
 pub(crate) fn write_head(out: &mut [u8], w: Work, a: Ancestors, c: Walked) -> Chain
     requires { ⌜ w .at + cleanMost ≤ length (now out) ⌝ }
     ensures { λ r. ⌜ Heads w a c (now (out .entry)) r (now (out .exit)) ⌝ }
@@ -181,14 +181,6 @@ pub(crate) fn write_head(out: &mut [u8], w: Work, a: Ancestors, c: Walked) -> Ch
     let block = a.b0;
     if a.answer == DONE {
         let at = write_clean(out, w, a);
-        return Chain { left, at, block };
-    }
-    if a.answer == WAIT_PARENT {
-        let s = w.block;
-        let parent = s.parent;
-        let digest = s.digest;
-        let author = w.author;
-        let at = put_sync(out, w.at, parent, digest, author);
         return Chain { left, at, block };
     }
     Chain {
@@ -229,7 +221,7 @@ pub(crate) fn settled_by(w: Work, a: Ancestors, c: Walked, t: Chain) -> Settled
 }
 
 // What follows the store: cleanup, and the commit of b0, from the table as it is now and b0 as it was
-// found before. A block that is not stored only waits.
+// found before. Of a block that is not stored nothing is written.
 pub(crate) fn conclude(table: &[Slot], out: &mut [u8], w: Work, a: Ancestors) -> Settled
     requires { ⌜ CommitsFit (now table) w a (length (now out)) ⌝ }
     ensures { λ r. ⌜ Settles (concludedOf (now (table .entry)) w a) (settleMost (length (now (table .entry)))) (now (out .entry)) (w .at) r (now (table .entry)) (now (out .exit)) ⌝ }
@@ -240,7 +232,8 @@ pub(crate) fn conclude(table: &[Slot], out: &mut [u8], w: Work, a: Ancestors) ->
     settled_by(w, a, c, t)
 }
 
-// A block: its ancestors, the store, cleanup and commit.
+// A block: its ancestors, the store, cleanup and commit. Where the parent is absent it answers WAIT
+// PARENT and writes nothing.
 pub(crate) fn process_block(table: &mut [Slot], out: &mut [u8], w: Work) -> Settled
     requires { ⌜ w .at + settleMost (length (now table)) ≤ length (now out) ⌝ }
     ensures { λ r. ⌜ Settles (processedOf (now (table .entry)) w) (settleMost (length (now (table .entry)))) (now (out .entry)) (w .at) r (now (table .exit)) (now (out .exit)) ⌝ }
@@ -249,14 +242,36 @@ pub(crate) fn process_block(table: &mut [Slot], out: &mut [u8], w: Work) -> Sett
     conclude(table, out, w, a)
 }
 
+// SYNC, where a block waits for its parent. Any other settlement stays as it is.
+pub(crate) fn ask_parent(out: &mut [u8], w: Work, s: Settled) -> Settled
+    requires { ⌜ RoomToAsk s (length (now out)) ⌝ }
+    ensures { λ r. ⌜ Asks w s (now (out .entry)) r (now (out .exit)) ⌝ }
+{
+    if s.answer == WAIT_PARENT {
+        let block = w.block;
+        let parent = block.parent;
+        let digest = block.digest;
+        let author = w.author;
+        let last = s.last;
+        let at = put_sync(out, s.at, parent, digest, author);
+        return Settled {
+            answer: s.answer,
+            last,
+            at,
+        };
+    }
+    s
+}
+
 // What an event does with the table, and what it writes on the way. For a block the output has room for
-// the cleanup and a COMMIT for each slot.
+// the cleanup and a COMMIT for each slot; a block that waits writes SYNC alone.
 pub fn settle(table: &mut [Slot], out: &mut [u8], w: Work) -> Settled
     requires { ⌜ RoomFor w (length (now table)) (length (now out)) ⌝ }
     ensures { λ r. ⌜ Settles (settledOf (now (table .entry)) w) (settleMost (length (now (table .entry)))) (now (out .entry)) (w .at) r (now (table .exit)) (now (out .exit)) ⌝ }
 {
     if is_block(w) {
-        return process_block(table, out, w);
+        let s = process_block(table, out, w);
+        return ask_parent(out, w, s);
     }
     if is_clear(w) {
         clear(table);

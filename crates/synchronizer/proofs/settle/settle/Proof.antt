@@ -1,4 +1,4 @@
--- `synchronizer::settle::settle` meets its contract: a walk of its MIR. The table and the output are lent to `process_block`, or the table to `clear`, or neither.
+-- `synchronizer::settle::settle` meets its contract: a walk of its MIR. The table and the output are lent to `process_block` and then the output to `ask_parent`, or the table to `clear`, or neither.
 -- Assumes nothing.
 use mathlib.Core.Path.{_≡_, refl, _∙_, ap}
 use Prim.Native.Nat.{ℕ}
@@ -38,7 +38,7 @@ use Rattle.synchronizer.specs.declared.table.Slot.{Slot}
 use Rattle.synchronizer.specs.declared.settle.Work.{Work}
 use Rattle.synchronizer.specs.declared.settle.Settled.{Settled}
 use Rattle.synchronizer.specs.Settle.{settledOf, settleMost, RoomFor, Settles}
-use Rattle.synchronizer.proofs.SettleLaws.{settle-room, settle-block, settle-clear, settle-idle}
+use Rattle.synchronizer.proofs.SettleLaws.{ask-room, ask-done, settle-room, settle-block, settle-clear, settle-idle}
 use Rattle.synchronizer.proofs.Lent.{arg, sets, gets-in, held-two-at, frees-at, frees-room, passes, enters-arm, by-cases, at-end-two, at-name, OwnMut, mut-as-mut, calls-plain, calls-held, calls-both}
 use Rattle.synchronizer.proofs.Row.{slot, work, work-mach, work-vals, work-tells, work-makes, work-typed, settled, settled-makes, settled-typed}
 use Rattle.synchronizer.proofs.Uses as U
@@ -48,6 +48,9 @@ use Rattle.synchronizer.proofs.settle.is_block.Met as is-block-thm
 use Rattle.synchronizer.proofs.settle.process_block.Symbol as process-block-def
 use Rattle.synchronizer.proofs.settle.process_block.Symbol.{name as #synchronizer·settle·process-block}
 use Rattle.synchronizer.proofs.settle.process_block.Met as process-block-thm
+use Rattle.synchronizer.proofs.settle.ask_parent.Symbol as ask-parent-def
+use Rattle.synchronizer.proofs.settle.ask_parent.Symbol.{name as #synchronizer·settle·ask-parent}
+use Rattle.synchronizer.proofs.settle.ask_parent.Met as ask-parent-thm
 use Rattle.synchronizer.proofs.settle.is_clear.Symbol as is-clear-def
 use Rattle.synchronizer.proofs.settle.is_clear.Symbol.{name as #synchronizer·settle·is-clear}
 use Rattle.synchronizer.proofs.settle.is_clear.Met as is-clear-thm
@@ -69,6 +72,7 @@ stayed = (stay-slice (0 ∷ []) tt (plain (λ _. slot)), (stay-slice (1 ∷ []) 
 record Known {M : Type 1} (𝓤 : URA M) (H : Heap 𝓤) (A : Atoms 𝓤) (mem : Memory → SProp 𝓤) (run : Routine → Fun 𝓤) (𝓣 : Tables 𝓤 H) : Type 1 where
   is-block : Triple 𝓤 (𝓣 .C #synchronizer·settle·is-block) (U.IsBlockMet 𝓤 H A mem run)
   process-block : Triple 𝓤 (𝓣 .C #synchronizer·settle·process-block) (U.ProcessBlockMet 𝓤 H A mem run)
+  ask-parent : Triple 𝓤 (𝓣 .C #synchronizer·settle·ask-parent) (U.AskParentMet 𝓤 H A mem run)
   is-clear : Triple 𝓤 (𝓣 .C #synchronizer·settle·is-clear) (U.IsClearMet 𝓤 H A mem run)
   clear : Triple 𝓤 (𝓣 .C #synchronizer·table·clear) (U.ClearMet 𝓤 H A mem run)
   with-answer : Triple 𝓤 (𝓣 .C #synchronizer·settle·with-answer) (U.WithAnswerMet 𝓤 H A mem run)
@@ -96,39 +100,43 @@ module _ {M : Type 1} (𝓤 : URA M) (H : Heap 𝓤) (A : Atoms 𝓤) (W : Given
   walk 𝓣 known =
       let fm : FmC 𝓤 H (W .laws) (𝓣 .C) = fmOf 𝓤 H (W .laws) 𝓣 in
       qed W ((‵ (flft κ q) ⊛ ‵ (flft κ′ q′) ⊛ ‵ ftrue) ∷ ‵ (owns (MutSlice (named 0) κ slot ∷ MutSlice (named 1) κ′ u8 ∷ work ∷ []) (y .0 .3) (y .0 .4)) ∷ []) ∵ enter ! (𝓣 .C) (𝓣 .Λ) code.function (v ∷ v′ ∷ work-mach w ∷ []) _ $
-      alloc1 ! (λ l₀. alloc1 ! (λ l₁. alloc1 ! (λ l₂. alloc1 ! (λ l₃. alloc1 ! (λ l₄. alloc1 ! (λ l₅. alloc1 ! (λ l₆. alloc1 ! (λ l₇. alloc1 ! (λ l₈. alloc1 ! (λ l₉. alloc1 ! (λ l₁₀. alloc1 ! (λ l₁₁. alloc1 ! (λ l₁₂. alloc0 ! $ params1 ! $
-      pass1 ! (init ! 22 refl (tt, (tt, (record { fits = room .0 }, tt)))) $ pass1 ! (init ! 20 refl (tt, (tt, (record { fits = room′ .0 }, tt)))) $ pass1 ! (init ! 18 refl (work-typed 𝓤 H A W w _ w-is)) $ pass0 ! $ held-two-at ! 26 refl refl $
-      -- local k stands at 2 · (12 − k), the slices from 26 on
-      -- `is_block`, into _4
-      calls-plain ! fm (U.is-block-use 𝓤 H A mem run W 𝓣 (known .is-block) w (work-mach w) w-is) (and-then ! (arg ! 18 refl) (no-more !)) (λ z₁ x₁ f₁. gets-in ! 16 refl (bool-lawful 𝓤 H A W .typed x₁ _ (f₁ .1) .0) $
+      alloc1 ! (λ l₀. alloc1 ! (λ l₁. alloc1 ! (λ l₂. alloc1 ! (λ l₃. alloc1 ! (λ l₄. alloc1 ! (λ l₅. alloc1 ! (λ l₆. alloc1 ! (λ l₇. alloc1 ! (λ l₈. alloc1 ! (λ l₉. alloc1 ! (λ l₁₀. alloc1 ! (λ l₁₁. alloc1 ! (λ l₁₂. alloc1 ! (λ l₁₃. alloc1 ! (λ l₁₄. alloc1 ! (λ l₁₅. alloc0 ! $ params1 ! $
+      pass1 ! (init ! 28 refl (tt, (tt, (record { fits = room .0 }, tt)))) $ pass1 ! (init ! 26 refl (tt, (tt, (record { fits = room′ .0 }, tt)))) $ pass1 ! (init ! 24 refl (work-typed 𝓤 H A W w _ w-is)) $ pass0 ! $ held-two-at ! 32 refl refl $
+      -- local k stands at 2 · (15 − k), the slices from 32 on
+      -- `is_block`, into _5
+      calls-plain ! fm (U.is-block-use 𝓤 H A mem run W 𝓣 (known .is-block) w (work-mach w) w-is) (and-then ! (arg ! 24 refl) (no-more !)) (λ z₁ x₁ f₁. gets-in ! 20 refl (bool-lawful 𝓤 H A W .typed x₁ _ (f₁ .1) .0) $
       by-cases x₁
-      (λ b₁. rewrite ! 16 (λ (u : Val). ‵ (fat fullShare tyBool l₄ 0 u)) (ap only (f₁ .1) ∙ ap vbool b₁) refl $ enters-arm ! (arg ! 16 refl) $
-      sets ! 14 refl (addr ! (from ! (fld ! refl (hop ! (look-in ! 22 (sub ! 0 refl (whole !))) (stop !))))) (tt, tt) $
-      sets ! 12 refl (agg ! (and-then ! (arg ! 14 refl) (and-then ! (load ! (from ! (fld ! refl (stop !))) (look-in ! 22 (sub ! 1 refl (whole !)))) (no-more !)))) (tt, (tt, (record { fits = room .0 }, tt))) $
-      sets ! 10 refl (addr ! (from ! (fld ! refl (hop ! (look-in ! 20 (sub ! 0 refl (whole !))) (stop !))))) (tt, tt) $
-      sets ! 8 refl (agg ! (and-then ! (arg ! 10 refl) (and-then ! (load ! (from ! (fld ! refl (stop !))) (look-in ! 20 (sub ! 1 refl (whole !)))) (no-more !)))) (tt, (tt, (record { fits = room′ .0 }, tt))) $
-      -- `process_block`, into _0
-      calls-both ! fm 26 26 (U.process-block-use 𝓤 H A mem run W 𝓣 (known .process-block) b o (length ys) ys (mut-as-mut 𝓤 H A slot b o (length ys) ys W (named 0) κ q γ refl room) b′ o′ (length xs) xs (mut-as-mut 𝓤 H A u8 b′ o′ (length xs) xs W (named 1) κ′ q′ γ′ refl room′) w (work-mach w) w-is (settle-room ys w (f₁ .0) (length xs) b₁ pre)) refl refl (λ _. refl) (and-then ! (arg ! 12 refl) (and-then ! (arg ! 8 refl) (and-then ! (arg ! 18 refl) (no-more !)))) (λ z₂ x₂ f₂. gets-in ! 24 refl (settled-typed 𝓤 H A W (x₂ .0) _ (f₂ .1 .1 .1)) $
-      returns-within ! Post refl (look ! 24 refl) $ frees-at ! 24 refl refl $ frees-at ! 22 refl refl $ frees-at ! 20 refl refl $ frees-at ! 18 refl refl $ frees-at ! 16 refl refl $ frees-at ! 14 refl refl $ frees-at ! 12 refl refl $ frees-at ! 10 refl refl $ frees-at ! 8 refl refl $ frees-room ! 6 refl refl $ frees-room ! 4 refl refl $ frees-room ! 2 refl refl $ frees-room ! 0 refl refl $ free0 ! $
-      by ! (exits (x₂ .0) z₂ (f₂ .1 .1 .1) (x₂ .1 .0) (x₂ .1 .1) (settle-block ys w (f₁ .0) b₁ (f₂ .0)) (f₂ .1 .0) (f₂ .1 .1 .0))))
-      (λ b₁. rewrite ! 16 (λ (u : Val). ‵ (fat fullShare tyBool l₄ 0 u)) (ap only (f₁ .1) ∙ ap vbool b₁) refl $ passes ! (arg ! 16 refl) $
-      -- `is_clear`, into _9
-      calls-plain ! fm (U.is-clear-use 𝓤 H A mem run W 𝓣 (known .is-clear) w (work-mach w) w-is) (and-then ! (arg ! 18 refl) (no-more !)) (λ z₃ x₃ f₃. gets-in ! 6 refl (bool-lawful 𝓤 H A W .typed x₃ _ (f₃ .1) .0) $
-      by-cases x₃
-      (λ b₂. rewrite ! 6 (λ (u : Val). ‵ (fat fullShare tyBool l₉ 0 u)) (ap only (f₃ .1) ∙ ap vbool b₂) refl $ enters-arm ! (arg ! 6 refl) $
-      sets ! 2 refl (addr ! (from ! (fld ! refl (hop ! (look-in ! 22 (sub ! 0 refl (whole !))) (stop !))))) (tt, tt) $
-      sets ! 0 refl (agg ! (and-then ! (arg ! 2 refl) (and-then ! (load ! (from ! (fld ! refl (stop !))) (look-in ! 22 (sub ! 1 refl (whole !)))) (no-more !)))) (tt, (tt, (record { fits = room .0 }, tt))) $
-      -- `clear`, into _10
-      calls-held ! fm 26 (U.clear-use 𝓤 H A mem run W 𝓣 (known .clear) b o (length ys) ys (mut-as-mut 𝓤 H A slot b o (length ys) ys W (named 0) κ q γ refl room)) refl (and-then ! (arg ! 0 refl) (no-more !)) (λ z₄ x₄ f₄. gets-in ! 4 refl (nothing-lawful 𝓤 H A W .typed (x₄ .0) _ (f₄ .1 .1) .0) $
+      (λ b₁. rewrite ! 20 (λ (u : Val). ‵ (fat fullShare tyBool l₅ 0 u)) (ap only (f₁ .1) ∙ ap vbool b₁) refl $ enters-arm ! (arg ! 20 refl) $
+      sets ! 18 refl (addr ! (from ! (fld ! refl (hop ! (look-in ! 28 (sub ! 0 refl (whole !))) (stop !))))) (tt, tt) $
+      sets ! 16 refl (agg ! (and-then ! (arg ! 18 refl) (and-then ! (load ! (from ! (fld ! refl (stop !))) (look-in ! 28 (sub ! 1 refl (whole !)))) (no-more !)))) (tt, (tt, (record { fits = room .0 }, tt))) $
+      sets ! 14 refl (addr ! (from ! (fld ! refl (hop ! (look-in ! 26 (sub ! 0 refl (whole !))) (stop !))))) (tt, tt) $
+      sets ! 12 refl (agg ! (and-then ! (arg ! 14 refl) (and-then ! (load ! (from ! (fld ! refl (stop !))) (look-in ! 26 (sub ! 1 refl (whole !)))) (no-more !)))) (tt, (tt, (record { fits = room′ .0 }, tt))) $
+      -- `process_block`, into _4
+      calls-both ! fm 32 32 (U.process-block-use 𝓤 H A mem run W 𝓣 (known .process-block) b o (length ys) ys (mut-as-mut 𝓤 H A slot b o (length ys) ys W (named 0) κ q γ refl room) b′ o′ (length xs) xs (mut-as-mut 𝓤 H A u8 b′ o′ (length xs) xs W (named 1) κ′ q′ γ′ refl room′) w (work-mach w) w-is (settle-room ys w (f₁ .0) (length xs) b₁ pre)) refl refl (λ _. refl) (and-then ! (arg ! 16 refl) (and-then ! (arg ! 12 refl) (and-then ! (arg ! 24 refl) (no-more !)))) (λ z₂ x₂ f₂. gets-in ! 22 refl (settled-typed 𝓤 H A W (x₂ .0) _ (f₂ .1 .1 .1)) $
+      sets ! 10 refl (addr ! (from ! (fld ! refl (hop ! (look-in ! 26 (sub ! 0 refl (whole !))) (stop !))))) (tt, tt) $
+      sets ! 8 refl (agg ! (and-then ! (arg ! 10 refl) (and-then ! (load ! (from ! (fld ! refl (stop !))) (look-in ! 26 (sub ! 1 refl (whole !)))) (no-more !)))) (tt, (tt, (record { fits = room′ .0 }, tt))) $
+      -- `ask_parent`, into _0
+      calls-held ! fm 33 (U.ask-parent-use 𝓤 H A mem run W 𝓣 (known .ask-parent) b′ o′ (length xs) (x₂ .1 .1) (mut-as-mut 𝓤 H A u8 b′ o′ (length xs) (x₂ .1 .1) W (named 1) κ′ q′ γ′ (f₂ .1 .1 .0) room′) w (work-mach w) w-is (x₂ .0) z₂ (f₂ .1 .1 .1) (ask-room ys w (f₂ .0) (settle-room ys w (f₁ .0) (length xs) b₁ pre) (f₂ .1 .1 .0))) refl (and-then ! (arg ! 8 refl) (and-then ! (arg ! 24 refl) (and-then ! (arg ! 22 refl) (no-more !)))) (λ z₃ x₃ f₃. gets-in ! 30 refl (settled-typed 𝓤 H A W (x₃ .0) _ (f₃ .1 .1)) $
+      returns-within ! Post refl (look ! 30 refl) $ frees-at ! 30 refl refl $ frees-at ! 28 refl refl $ frees-at ! 26 refl refl $ frees-at ! 24 refl refl $ frees-at ! 22 refl refl $ frees-at ! 20 refl refl $ frees-at ! 18 refl refl $ frees-at ! 16 refl refl $ frees-at ! 14 refl refl $ frees-at ! 12 refl refl $ frees-at ! 10 refl refl $ frees-at ! 8 refl refl $ frees-room ! 6 refl refl $ frees-room ! 4 refl refl $ frees-room ! 2 refl refl $ frees-room ! 0 refl refl $ free0 ! $
+      by ! (exits (x₃ .0) z₃ (f₃ .1 .1) (x₂ .1 .0) (x₃ .1) (settle-block ys w (f₁ .0) b₁ (ask-done ys w (f₂ .0) (f₃ .0))) (f₂ .1 .0) (f₃ .1 .0)))))
+      (λ b₁. rewrite ! 20 (λ (u : Val). ‵ (fat fullShare tyBool l₅ 0 u)) (ap only (f₁ .1) ∙ ap vbool b₁) refl $ passes ! (arg ! 20 refl) $
+      -- `is_clear`, into _12
+      calls-plain ! fm (U.is-clear-use 𝓤 H A mem run W 𝓣 (known .is-clear) w (work-mach w) w-is) (and-then ! (arg ! 24 refl) (no-more !)) (λ z₄ x₄ f₄. gets-in ! 6 refl (bool-lawful 𝓤 H A W .typed x₄ _ (f₄ .1) .0) $
+      by-cases x₄
+      (λ b₂. rewrite ! 6 (λ (u : Val). ‵ (fat fullShare tyBool l₁₂ 0 u)) (ap only (f₄ .1) ∙ ap vbool b₂) refl $ enters-arm ! (arg ! 6 refl) $
+      sets ! 2 refl (addr ! (from ! (fld ! refl (hop ! (look-in ! 28 (sub ! 0 refl (whole !))) (stop !))))) (tt, tt) $
+      sets ! 0 refl (agg ! (and-then ! (arg ! 2 refl) (and-then ! (load ! (from ! (fld ! refl (stop !))) (look-in ! 28 (sub ! 1 refl (whole !)))) (no-more !)))) (tt, (tt, (record { fits = room .0 }, tt))) $
+      -- `clear`, into _13
+      calls-held ! fm 32 (U.clear-use 𝓤 H A mem run W 𝓣 (known .clear) b o (length ys) ys (mut-as-mut 𝓤 H A slot b o (length ys) ys W (named 0) κ q γ refl room)) refl (and-then ! (arg ! 0 refl) (no-more !)) (λ z₅ x₅ f₅. gets-in ! 4 refl (nothing-lawful 𝓤 H A W .typed (x₅ .0) _ (f₅ .1 .1) .0) $
       -- `with_answer`, into _0
-      calls-plain ! fm (U.with-answer-use 𝓤 H A mem run W 𝓣 (known .with-answer) w (work-mach w) w-is 0 (vint w16 0) ((refl, lit< tt))) (and-then ! (arg ! 18 refl) (and-then ! (lit ! tt) (no-more !))) (λ z₅ x₅ f₅. gets-in ! 24 refl (settled-typed 𝓤 H A W x₅ _ (f₅ .1)) $
-      returns-within ! Post refl (look ! 24 refl) $ frees-at ! 24 refl refl $ frees-at ! 22 refl refl $ frees-at ! 20 refl refl $ frees-at ! 18 refl refl $ frees-at ! 16 refl refl $ frees-room ! 14 refl refl $ frees-room ! 12 refl refl $ frees-room ! 10 refl refl $ frees-room ! 8 refl refl $ frees-at ! 6 refl refl $ frees-at ! 4 refl refl $ frees-at ! 2 refl refl $ frees-at ! 0 refl refl $ free0 ! $
-      by ! (exits x₅ z₅ (f₅ .1) (x₄ .1) xs (settle-clear ys w (f₁ .0) b₁ (f₃ .0) (f₅ .0) xs b₂ (f₄ .0)) (f₄ .1 .0) refl))))
-      (λ b₂. rewrite ! 6 (λ (u : Val). ‵ (fat fullShare tyBool l₉ 0 u)) (ap only (f₃ .1) ∙ ap vbool b₂) refl $ passes ! (arg ! 6 refl) $
+      calls-plain ! fm (U.with-answer-use 𝓤 H A mem run W 𝓣 (known .with-answer) w (work-mach w) w-is 0 (vint w16 0) ((refl, lit< tt))) (and-then ! (arg ! 24 refl) (and-then ! (lit ! tt) (no-more !))) (λ z₆ x₆ f₆. gets-in ! 30 refl (settled-typed 𝓤 H A W x₆ _ (f₆ .1)) $
+      returns-within ! Post refl (look ! 30 refl) $ frees-at ! 30 refl refl $ frees-at ! 28 refl refl $ frees-at ! 26 refl refl $ frees-at ! 24 refl refl $ frees-room ! 22 refl refl $ frees-at ! 20 refl refl $ frees-room ! 18 refl refl $ frees-room ! 16 refl refl $ frees-room ! 14 refl refl $ frees-room ! 12 refl refl $ frees-room ! 10 refl refl $ frees-room ! 8 refl refl $ frees-at ! 6 refl refl $ frees-at ! 4 refl refl $ frees-at ! 2 refl refl $ frees-at ! 0 refl refl $ free0 ! $
+      by ! (exits x₆ z₆ (f₆ .1) (x₅ .1) xs (settle-clear ys w (f₁ .0) b₁ (f₄ .0) (f₆ .0) xs b₂ (f₅ .0)) (f₅ .1 .0) refl))))
+      (λ b₂. rewrite ! 6 (λ (u : Val). ‵ (fat fullShare tyBool l₁₂ 0 u)) (ap only (f₄ .1) ∙ ap vbool b₂) refl $ passes ! (arg ! 6 refl) $
       -- `with_answer`, into _0
-      calls-plain ! fm (U.with-answer-use 𝓤 H A mem run W 𝓣 (known .with-answer) w (work-mach w) w-is 0 (vint w16 0) ((refl, lit< tt))) (and-then ! (arg ! 18 refl) (and-then ! (lit ! tt) (no-more !))) (λ z₆ x₆ f₆. gets-in ! 24 refl (settled-typed 𝓤 H A W x₆ _ (f₆ .1)) $
-      returns ! (look ! 24 refl) $ frees-at ! 24 refl refl $ frees-at ! 22 refl refl $ frees-at ! 20 refl refl $ frees-at ! 18 refl refl $ frees-at ! 16 refl refl $ frees-room ! 14 refl refl $ frees-room ! 12 refl refl $ frees-room ! 10 refl refl $ frees-room ! 8 refl refl $ frees-at ! 6 refl refl $ frees-room ! 4 refl refl $ frees-room ! 2 refl refl $ frees-room ! 0 refl refl $ free0 ! $
-      by ! (exits x₆ z₆ (f₆ .1) ys xs (settle-idle ys w (f₁ .0) b₁ (f₃ .0) (f₆ .0) xs b₂) refl refl)))))))))))))))))))
+      calls-plain ! fm (U.with-answer-use 𝓤 H A mem run W 𝓣 (known .with-answer) w (work-mach w) w-is 0 (vint w16 0) ((refl, lit< tt))) (and-then ! (arg ! 24 refl) (and-then ! (lit ! tt) (no-more !))) (λ z₇ x₇ f₇. gets-in ! 30 refl (settled-typed 𝓤 H A W x₇ _ (f₇ .1)) $
+      returns ! (look ! 30 refl) $ frees-at ! 30 refl refl $ frees-at ! 28 refl refl $ frees-at ! 26 refl refl $ frees-at ! 24 refl refl $ frees-room ! 22 refl refl $ frees-at ! 20 refl refl $ frees-room ! 18 refl refl $ frees-room ! 16 refl refl $ frees-room ! 14 refl refl $ frees-room ! 12 refl refl $ frees-room ! 10 refl refl $ frees-room ! 8 refl refl $ frees-at ! 6 refl refl $ frees-room ! 4 refl refl $ frees-room ! 2 refl refl $ frees-room ! 0 refl refl $ free0 ! $
+      by ! (exits x₇ z₇ (f₇ .1) ys xs (settle-idle ys w (f₁ .0) b₁ (f₄ .0) (f₇ .0) xs b₂) refl refl))))))))))))))))))))))
 
 settle-meets : {M : Type 1} (𝓤 : URA M) (H : Heap 𝓤) (A : Atoms 𝓤) → Given 𝓤 H A → (mem : Memory → SProp 𝓤) (run : Routine → Fun 𝓤) (𝓣 : Tables 𝓤 H) → Known 𝓤 H A mem run 𝓣
     → Meets 𝓤 H A settle.signature (WpFn 𝓤 H (𝓣 .C) (𝓣 .Λ) code.function) (settle.spec 𝓤 H A mem run)
@@ -145,6 +153,7 @@ settle-spec 𝓤 H 𝓜 𝓖 𝓡 =
     (settle-meets 𝓤 H (𝓖 .A) (givenOf 𝓤 H 𝓜 𝓖) (𝓜 .mem) (𝓡 .run) (tablesOf 𝓤 H 𝓜 (tables 𝓤 H 𝓜 𝓡 code.env)) record {
       is-block = cited 𝓤 H (U.IsBlockMet 𝓤 H (𝓖 .A) (𝓜 .mem) (𝓡 .run)) 𝓜 𝓡 code.env #synchronizer·settle·is-block is-block-def.routine code.calls-synchronizer·settle·is-block (is-block-thm.met 𝓤 H 𝓜 𝓖 𝓡);
       process-block = cited 𝓤 H (U.ProcessBlockMet 𝓤 H (𝓖 .A) (𝓜 .mem) (𝓡 .run)) 𝓜 𝓡 code.env #synchronizer·settle·process-block process-block-def.routine code.calls-synchronizer·settle·process-block (process-block-thm.met 𝓤 H 𝓜 𝓖 𝓡);
+      ask-parent = cited 𝓤 H (U.AskParentMet 𝓤 H (𝓖 .A) (𝓜 .mem) (𝓡 .run)) 𝓜 𝓡 code.env #synchronizer·settle·ask-parent ask-parent-def.routine code.calls-synchronizer·settle·ask-parent (ask-parent-thm.met 𝓤 H 𝓜 𝓖 𝓡);
       is-clear = cited 𝓤 H (U.IsClearMet 𝓤 H (𝓖 .A) (𝓜 .mem) (𝓡 .run)) 𝓜 𝓡 code.env #synchronizer·settle·is-clear is-clear-def.routine code.calls-synchronizer·settle·is-clear (is-clear-thm.met 𝓤 H 𝓜 𝓖 𝓡);
       clear = cited 𝓤 H (U.ClearMet 𝓤 H (𝓖 .A) (𝓜 .mem) (𝓡 .run)) 𝓜 𝓡 code.env #synchronizer·table·clear clear-def.routine code.calls-synchronizer·table·clear (clear-thm.met 𝓤 H 𝓜 𝓖 𝓡);
       with-answer = cited 𝓤 H (U.WithAnswerMet 𝓤 H (𝓖 .A) (𝓜 .mem) (𝓡 .run)) 𝓜 𝓡 code.env #synchronizer·settle·with-answer with-answer-def.routine code.calls-synchronizer·settle·with-answer (with-answer-thm.met 𝓤 H 𝓜 𝓖 𝓡);

@@ -1,6 +1,6 @@
 -- `synchronizer::settle::write_head` meets its contract: a law for each way out.
 -- Assumes nothing.
-use Rattle.synchronizer.proofs.SettleLaws.{head-stored, head-waits, head-none}
+use Rattle.synchronizer.proofs.SettleLaws.{head-stored, head-none}
 use borrow.Author.Needs.{needs}
 use Rattle.synchronizer.proofs.settle.write_head.Statement.{statement}
 use Rattle.synchronizer.proofs.settle.write_head.Tie as tie
@@ -14,26 +14,8 @@ same-length c = search needs
 returns : tie.Need-returns
 returns c = search (needs, head-stored)
 
-put-sync-requires : tie.Need-put-sync-requires
-put-sync-requires c κs = search needs
-
-same-length-2 : tie.Need-same-length-2
-same-length-2 c = search needs
-
 returns-2 : tie.Need-returns-2
-returns-2 c = search (needs, head-waits)
-
-returns-3 : tie.Need-returns-3
-returns-3 c = search (needs, head-none)
+returns-2 c = search (needs, head-none)
 
 pub write-head-spec : {M : Type 1} → statement M
-write-head-spec =
-    tie.close
-    (tie.spec
-    write-clean-requires
-    same-length
-    returns
-    put-sync-requires
-    same-length-2
-    returns-2
-    returns-3)
+write-head-spec = tie.close (tie.spec write-clean-requires same-length returns returns-2)
