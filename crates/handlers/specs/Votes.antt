@@ -34,16 +34,16 @@ handledVote m own s v =
 
 -- ---- the voting rules
 
--- Jolteon's second rule: the block extends the certificate of the round before, or the timeout certificate of the round before with a
--- QC at least as high as any that it reports. "qc.round+1 = round, or its TC has tc.round+1 = round and qc.round at least its largest
--- high round"
+-- Jolteon's voting rule for a block of round r, in its terms: r is the current round, r > r_vote, and (1) r = qc.r + 1, or (2) r = tc.r + 1
+-- and qc.r ≥ max { qc_high.r | qc_high ∈ tc }. The part behind "and": "qc.round+1 = round, or its TC has tc.round+1 = round and qc.round at
+-- least its largest high round"
 unfoldable pub extends : Block → Bool
 extends b =
     cond (eqb (b .«qc_round» .0 + 1) (b .round .0)) true
     (cond (eqb (b .tc) 0) false
     (cond (eqb (b .«tc_round» .0 + 1) (b .round .0)) (leb (b .«tc_high» .0) (b .«qc_round» .0)) false))
 
--- with its first: "Vote if round > last voted and (..)"
+-- with r > r_vote: "Vote if round > last voted and (..)"
 unfoldable pub mayVote : Core → Block → Bool
 mayVote c b = cond (ltb (c .«last_voted_round» .0) (b .round .0)) (extends b) false
 
@@ -61,7 +61,7 @@ voted m own b s =
     after (wrote (withCore s (withVoted (s .core) (b .round .0))) (vote (leaderOf m (b .round .0 + 1)) (b .digest) (b .round .0)))
     (λ (t : State). cond (eqb (leaderOf m (b .round .0 + 1)) own) (ownVote m own b t) (done 0 (quiet t)))
 
--- "If the block's round is not current, done. Vote if .."
+-- with r the current round: "If the block's round is not current, done. Vote if .."
 unfoldable pub voting : List ℕ → ℕ → Block → State → Outcome
 voting m own b s =
     cond (eqb (b .round .0) (s .core .round .0)) (cond (mayVote (s .core) b) (voted m own b s) (done 0 (quiet s))) (done 0 (quiet s))
