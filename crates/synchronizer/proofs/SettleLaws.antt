@@ -2,9 +2,10 @@
 --     commits-fit              at most as many COMMITs as slots: after the store b1's slot or b0's is still there, and neither is below b0
 --     next-.., two-.., head-.., by-.., asks-..    the ways out of the functions on values
 --     admit-..                 a block's ancestors and its store
---     conclude-..              what follows the store
+--     commit-..              what follows the store
 --     process-..               a block
 --     processed-waits          a block that waits for its parent has written nothing
+--     ask-.., wait-none        SYNC behind what a block wrote; where it does not wait, nothing
 --     settle-..                an event
 --     settled-.., processed-.. what a settlement is, case by case
 --     settles-unique           the outcome is determined
@@ -13,7 +14,7 @@ use mathlib.Core.Path.{_≡_, refl, sym, _∙_, ap}
 use Prim.Native.Nat.{ℕ, _+_, _-_, _*_, _<_, _≤_}
 use native.Mathlib.Omega.{arith}
 use mathlib.Core.Bool.{Bool, true, false, not, cond}
-use mathlib.Core.List.{List, [], _++_, map, append-nil}
+use mathlib.Core.List.{List, [], map, append-nil}
 use lib.Dec.{ltb, eqb}
 use lib.ListN.{length, set, length-set}
 use lib.Seq.{getD-set-other, set-out}
@@ -35,7 +36,7 @@ use Rattle.synchronizer.specs.Table.{slotAt, blank, placeOf, stored, sto
 use Rattle.synchronizer.specs.Walk.{noCommit, commitOf, chainOf}
 use Rattle.synchronizer.specs.Settle.{Settlement, answered, isTwoChain, cleanOf, commitIf, commitRec, linkedOf, waitOf, asking, processedBy, processedOf, settledOf, cleanMost, settleMost, RoomFor, Settles}
 use Rattle.synchronizer.specs.Settle as spec
-use Rattle.synchronizer.specs.Parts.{countOf, Admits, toCommit, concludedOf, CommitsFit, Heads, settledBy, RoomToAsk, Asks}
+use Rattle.synchronizer.specs.Parts.{countOf, Admits, toCommit, committedOf, CommitsFit, Heads, settledBy, RoomToAsk, Asks}
 use Rattle.synchronizer.proofs.Lent.{by-cases}
 use Rattle.synchronizer.proofs.TableLaws.{stored-length, cleared-length}
 use Rattle.synchronizer.proofs.WalkLaws.{below, below-some, InTable, parent-in, commit-size, commit-chain, commit-genesis, commit-never-waits}
@@ -168,8 +169,8 @@ module _ (t : List Slot) (w : Work) (a : Ancestors) {before mid : List ℕ} (roo
   counts = rw (e₃, e₁, e₂)
 
   -- the COMMITs have room
-  pub conclude-room : ch .at + commitSize * ch .left ≤ length mid
-  conclude-room = omega (arith, room .0, room .1, head .left, ap (λ (x : Walked). x .blocks) counts, head .bytes .room)
+  pub commit-room : ch .at + commitSize * ch .left ≤ length mid
+  commit-room = omega (arith, room .0, room .1, head .left, ap (λ (x : Walked). x .blocks) counts, head .bytes .room)
 
   module _ {after : List ℕ} {r : Settled} (wrote : Wrote (commitSize * ch .left) (map commitRec (chainOf (ch .left) t (ch .block))) mid (ch .at) after (ch .at + commitSize * ch .left))
       (e : r ≡ settledBy w a c ch) where
@@ -200,9 +201,9 @@ module _ (t : List Slot) (w : Work) (a : Ancestors) {before mid : List ℕ} (roo
         let rest : Wrote 0 [] mid (ch .at) after (ch .at + 0) = rw none at wrote in
         rw (e, n, none) (record { answer = refl; last = refl; slots = refl; bytes = wrote-more (wrote-then clean rest) (omega arith) })
 
-    pub conclude-done : Settles (concludedOf t w a) (settleMost (length t)) before (w .at) r t after
-    unfolding concludedOf
-    conclude-done = by-cases (eqb (a .answer) 0) (λ z. rw z (linked (eqb-true _ _ z))) (λ n. rw n (unstored n))
+    pub commit-done : Settles (committedOf t w a) (settleMost (length t)) before (w .at) r t after
+    unfolding committedOf
+    commit-done = by-cases (eqb (a .answer) 0) (λ z. rw z (linked (eqb-true _ _ z))) (λ n. rw n (unstored n))
 
 -- ---- a block's ancestors and its store
 
@@ -252,9 +253,9 @@ module _ (t : List Slot) (w : Work) {a : Ancestors} {t′ : List Slot} (got : Ad
           let u : t′ ≡ stored t (w .block) = got .slots ∙ rw z in
           rw (z, commit-if, got .b0, got .b1, u, stored-length) (commits-fit t (w .block) (w .last .0) (stored-then (eqb-true _ _ z) .0))
 
-  pub process-done : {r : Settled} {before after : List ℕ} → Settles (concludedOf t′ w a) (settleMost (length t′)) before (w .at) r t′ after
+  pub process-done : {r : Settled} {before after : List ℕ} → Settles (committedOf t′ w a) (settleMost (length t′)) before (w .at) r t′ after
       → Settles (processedOf t w) (settleMost (length t)) before (w .at) r t′ after
-  unfolding concludedOf processedBy
+  unfolding committedOf processedBy
   process-done {r} {before} {after} p = by-cases (eqb (a .answer) 0) kept (λ n. by-cases (eqb (ancestorsOf t (w .block) .answer) 0) (full n) (short n))
     where
       -- the block was stored
@@ -287,7 +288,7 @@ linked-never-waits : (t : List Slot) (b b0 b1 : Slot) (last : ℕ) → linkedOf 
 unfolding linkedOf commitIf
 linked-never-waits t b b0 b1 last = by-cases (isTwoChain b0 b1) (λ e. rw e (commit-never-waits t b0 last)) (λ e. rw e (λ z. omega arith))
 
--- so nothing was written
+-- so where one waits, nothing was written
 pub processed-waits : (t : List Slot) (w : Work) → processedOf t w .answer ≡ waitParent → processedOf t w .outs ≡ []
 unfolding processedBy
 processed-waits t w =
@@ -297,7 +298,7 @@ processed-waits t w =
     (λ f. rw (e, f) (λ z. refl)))
     (λ e. rw e (λ z. refl))
 
--- what does not wait asks for nothing
+-- a block that does not wait asks for nothing
 pub wait-none : (w : Work) (n : ℕ) → eqb n waitParent ≡ false → waitOf w n ≡ []
 unfolding waitOf
 wait-none w n e = rw e

@@ -41,7 +41,7 @@ use Rattle.synchronizer.specs.Table.{blank, slotAt, fits, lowest, wantAn
 use Rattle.synchronizer.specs.Walk.{commitOf, chainOf}
 use Rattle.synchronizer.specs.Settle as spec
 use Rattle.synchronizer.specs.Settle.{commitRec, processedOf, settledOf, cleanMost, settleMost, RoomFor, Settles}
-use Rattle.synchronizer.specs.Parts.{wantParent, parentBy, placed, setOut, walkOn, countOf, Admits, toCommit, concludedOf, settledBy, CommitsFit, Heads, RoomToAsk, Asks}
+use Rattle.synchronizer.specs.Parts.{wantParent, parentBy, placed, setOut, walkOn, countOf, Admits, toCommit, committedOf, settledBy, CommitsFit, Heads, RoomToAsk, Asks}
 use Rattle.synchronizer.proofs.Lent.{Gives, AsShr, AsMut, at-name, use-plain, use-one, use-two}
 use Rattle.synchronizer.proofs.Row.{slot, want, parent, ancestors, trail, count, chain, work, settled, round, slot-makes, want-makes, parent-makes, ancestors-makes, trail-makes, count-makes, chain-makes, work-makes, settled-makes, round-makes}
 use Rattle.synchronizer.proofs.table.empty as empty-fn
@@ -126,8 +126,8 @@ use Rattle.synchronizer.proofs.commit.count_walk as count-walk-fn
 use Rattle.synchronizer.proofs.commit.count_walk.Symbol.{name as #synchronizer·commit·count-walk}
 use Rattle.synchronizer.proofs.commit.write_commits as write-commits-fn
 use Rattle.synchronizer.proofs.commit.write_commits.Symbol.{name as #synchronizer·commit·write-commits}
-use Rattle.synchronizer.proofs.settle.conclude as conclude-fn
-use Rattle.synchronizer.proofs.settle.conclude.Symbol.{name as #synchronizer·settle·conclude}
+use Rattle.synchronizer.proofs.settle.commit as commit-fn
+use Rattle.synchronizer.proofs.settle.commit.Symbol.{name as #synchronizer·settle·commit}
 use Rattle.synchronizer.proofs.settle.process_block as process-block-fn
 use Rattle.synchronizer.proofs.settle.process_block.Symbol.{name as #synchronizer·settle·process-block}
 use Rattle.synchronizer.proofs.settle.settle as settle-fn
@@ -257,8 +257,8 @@ module _ {M : Type 1} (𝓤 : URA M) (H : Heap 𝓤) (A : Atoms 𝓤) (mem : Mem
   abbrev pub WriteCommitsMet : Contract 𝓤
   WriteCommitsMet = tripleOf 𝓤 H A write-commits-fn.signature (write-commits-fn.spec 𝓤 H A mem run)
 
-  abbrev pub ConcludeMet : Contract 𝓤
-  ConcludeMet = tripleOf 𝓤 H A conclude-fn.signature (conclude-fn.spec 𝓤 H A mem run)
+  abbrev pub CommitMet : Contract 𝓤
+  CommitMet = tripleOf 𝓤 H A commit-fn.signature (commit-fn.spec 𝓤 H A mem run)
 
   abbrev pub ProcessBlockMet : Contract 𝓤
   ProcessBlockMet = tripleOf 𝓤 H A process-block-fn.signature (process-block-fn.spec 𝓤 H A mem run)
@@ -519,10 +519,10 @@ module _ {M : Type 1} (𝓤 : URA M) (H : Heap 𝓤) (A : Atoms 𝓤) (mem : Mem
         use-two 𝓤 H A W fm #synchronizer·commit·write-commits (sliceVal (b, o) m ∷ sliceVal (b′, o′) m′ ∷ c-val ∷ []) (chain ∷ []) (chain-makes 𝓤 H A, tt) (c, tt) (c-val ∷ [], tt) (c-is, tt) unit (fact 𝓤 (c .at + commitSize * c .left ≤ length xs)) (factI 𝓤 (c .at + commitSize * c .left ≤ length xs) (emp 𝓤) pre) L L′ 1 (λ _ _ xs′. Wrote (commitSize * c .left) (map commitRec (chainOf (c .left) ys (c .block))) xs (c .at) xs′ (c .at + commitSize * c .left))
         (λ p p′. known (((L .lft p, (L′ .lft p′, tt)), (L .share p, (L′ .share p′, tt)), tt, (at-name slot b o (L .name p) ys, (at-name u8 b′ o′ (L′ .name p′) xs, (c, tt))), (sliceVal (b, o) m ∷ [], (sliceVal (b′, o′) m′ ∷ [], (c-val ∷ [], tt)))), tt))
 
-    pub conclude-use : Triple 𝓤 (𝓣 .C #synchronizer·settle·conclude) ConcludeMet → (b o m : ℕ) (ys : List Slot) {e : Item 𝓤} → AsShr 𝓤 H A slot b o m ys e → (b′ o′ m′ : ℕ) (xs : List ℕ) {e′ : Item 𝓤} {after′ : List ℕ → Item 𝓤} → AsMut 𝓤 H A u8 b′ o′ m′ xs e′ after′ → (w : Work) (w-val : Val) → Is work w (w-val ∷ []) → (a : Ancestors) (a-val : Val) → Is ancestors a (a-val ∷ []) → CommitsFit ys w a (length xs)
-        → Gives 𝓤 H A (𝓣 .C) #synchronizer·settle·conclude (sliceVal (b, o) m ∷ sliceVal (b′, o′) m′ ∷ w-val ∷ a-val ∷ []) (e ⊛ e′) (λ z (x : Settled × (Unit {0} × List ℕ)). (Settles (concludedOf ys w a) (settleMost (length ys)) xs (w .at) (x .0) ys (x .1 .1)) × (Unit {0} × ((length (x .1 .1) ≡ m′) × Is settled (x .0) (z ∷ [])))) (λ x. e ⊛ after′ (x .1 .1))
-    conclude-use known b o m ys L b′ o′ m′ xs L′ w w-val w-is a a-val a-is pre =
-        use-two 𝓤 H A W fm #synchronizer·settle·conclude (sliceVal (b, o) m ∷ sliceVal (b′, o′) m′ ∷ w-val ∷ a-val ∷ []) (work ∷ ancestors ∷ []) (work-makes 𝓤 H A, (ancestors-makes 𝓤 H A, tt)) (w, (a, tt)) (w-val ∷ [], (a-val ∷ [], tt)) (w-is, (a-is, tt)) settled (fact 𝓤 (CommitsFit ys w a (length xs))) (factI 𝓤 (CommitsFit ys w a (length xs)) (emp 𝓤) pre) L L′ 2 (λ r _ xs′. Settles (concludedOf ys w a) (settleMost (length ys)) xs (w .at) r ys xs′)
+    pub commit-use : Triple 𝓤 (𝓣 .C #synchronizer·settle·commit) CommitMet → (b o m : ℕ) (ys : List Slot) {e : Item 𝓤} → AsShr 𝓤 H A slot b o m ys e → (b′ o′ m′ : ℕ) (xs : List ℕ) {e′ : Item 𝓤} {after′ : List ℕ → Item 𝓤} → AsMut 𝓤 H A u8 b′ o′ m′ xs e′ after′ → (w : Work) (w-val : Val) → Is work w (w-val ∷ []) → (a : Ancestors) (a-val : Val) → Is ancestors a (a-val ∷ []) → CommitsFit ys w a (length xs)
+        → Gives 𝓤 H A (𝓣 .C) #synchronizer·settle·commit (sliceVal (b, o) m ∷ sliceVal (b′, o′) m′ ∷ w-val ∷ a-val ∷ []) (e ⊛ e′) (λ z (x : Settled × (Unit {0} × List ℕ)). (Settles (committedOf ys w a) (settleMost (length ys)) xs (w .at) (x .0) ys (x .1 .1)) × (Unit {0} × ((length (x .1 .1) ≡ m′) × Is settled (x .0) (z ∷ [])))) (λ x. e ⊛ after′ (x .1 .1))
+    commit-use known b o m ys L b′ o′ m′ xs L′ w w-val w-is a a-val a-is pre =
+        use-two 𝓤 H A W fm #synchronizer·settle·commit (sliceVal (b, o) m ∷ sliceVal (b′, o′) m′ ∷ w-val ∷ a-val ∷ []) (work ∷ ancestors ∷ []) (work-makes 𝓤 H A, (ancestors-makes 𝓤 H A, tt)) (w, (a, tt)) (w-val ∷ [], (a-val ∷ [], tt)) (w-is, (a-is, tt)) settled (fact 𝓤 (CommitsFit ys w a (length xs))) (factI 𝓤 (CommitsFit ys w a (length xs)) (emp 𝓤) pre) L L′ 2 (λ r _ xs′. Settles (committedOf ys w a) (settleMost (length ys)) xs (w .at) r ys xs′)
         (λ p p′. known (((L .lft p, (L′ .lft p′, tt)), (L .share p, (L′ .share p′, tt)), tt, (at-name slot b o (L .name p) ys, (at-name u8 b′ o′ (L′ .name p′) xs, (w, (a, tt)))), (sliceVal (b, o) m ∷ [], (sliceVal (b′, o′) m′ ∷ [], (w-val ∷ [], (a-val ∷ [], tt))))), tt))
 
     pub process-block-use : Triple 𝓤 (𝓣 .C #synchronizer·settle·process-block) ProcessBlockMet → (b o m : ℕ) (ys : List Slot) {e : Item 𝓤} {after : List Slot → Item 𝓤} → AsMut 𝓤 H A slot b o m ys e after → (b′ o′ m′ : ℕ) (xs : List ℕ) {e′ : Item 𝓤} {after′ : List ℕ → Item 𝓤} → AsMut 𝓤 H A u8 b′ o′ m′ xs e′ after′ → (w : Work) (w-val : Val) → Is work w (w-val ∷ []) → w .at + settleMost (length ys) ≤ length xs

@@ -6,7 +6,7 @@
 --     countOf c                      the number of blocks that a commit delivers
 --     Admits t b r t′                a block's ancestors and its store
 --     toCommit a                     the block that is committed
---     concludedOf t w a              what follows the store, a saying whether there was one
+--     committedOf t w a              what follows the store, a saying whether there was one
 --     CommitsFit t w a k             what is then written has room in k bytes
 --     Heads w a c before r after     what is written before the COMMITs
 --     settledBy w a c t              how a block is settled, from its count and the chain of its COMMITs
@@ -84,8 +84,8 @@ pub record Admits (t : List Slot) (b : Slot) (r : Ancestors) (t′ : List Slot) 
 abbrev pub toCommit : Ancestors → Slot
 toCommit a = cond (eqb (a .answer) 0) (cond (isTwoChain (a .b0) (a .b1)) (a .b0) genesis) genesis
 
-unfoldable pub concludedOf : List Slot → Work → Ancestors → Settlement
-concludedOf t w a = cond (eqb (a .answer) 0) (linkedOf t (w .block) (a .b0) (a .b1) (w .last .0)) (answered (a .answer) t (w .last .0) [])
+unfoldable pub committedOf : List Slot → Work → Ancestors → Settlement
+committedOf t w a = cond (eqb (a .answer) 0) (linkedOf t (w .block) (a .b0) (a .b1) (w .last .0)) (answered (a .answer) t (w .last .0) [])
 
 abbrev pub CommitsFit : List Slot → Work → Ancestors → ℕ → Type 0
 CommitsFit t w a k = (w .at + settleMost (length t) ≤ k) × (length (commitOf t (toCommit a) (w .last .0) .blocks) ≤ length t)

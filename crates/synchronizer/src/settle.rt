@@ -27,7 +27,7 @@ ghost use Rattle.outputs.specs.Records.{commitSize};
 ghost use Rattle.outputs.specs.Put.{Wrote};
 ghost use Rattle.synchronizer.specs.Settle.{isTwoChain, cleanOf, processedOf, settledOf, cleanMost, settleMost, RoomFor, Settles};
 ghost use Rattle.synchronizer.specs.Settle as spec;
-ghost use Rattle.synchronizer.specs.Parts.{Admits, toCommit, concludedOf, CommitsFit, Heads, settledBy, RoomToAsk, Asks};
+ghost use Rattle.synchronizer.specs.Parts.{Admits, toCommit, committedOf, CommitsFit, Heads, settledBy, RoomToAsk, Asks};
 
 // What an event does with the table: it clears it, it brings a block, or it does nothing.
 pub const NOTHING: u8 = 0;
@@ -222,9 +222,9 @@ pub(crate) fn settled_by(w: Work, a: Ancestors, c: Walked, t: Chain) -> Settled
 
 // What follows the store: cleanup, and the commit of b0, from the table as it is now and b0 as it was
 // found before. Of a block that is not stored nothing is written.
-pub(crate) fn conclude(table: &[Slot], out: &mut [u8], w: Work, a: Ancestors) -> Settled
+pub(crate) fn commit(table: &[Slot], out: &mut [u8], w: Work, a: Ancestors) -> Settled
     requires { ⌜ CommitsFit (now table) w a (length (now out)) ⌝ }
-    ensures { λ r. ⌜ Settles (concludedOf (now (table .entry)) w a) (settleMost (length (now (table .entry)))) (now (out .entry)) (w .at) r (now (table .entry)) (now (out .exit)) ⌝ }
+    ensures { λ r. ⌜ Settles (committedOf (now (table .entry)) w a) (settleMost (length (now (table .entry)))) (now (out .entry)) (w .at) r (now (table .entry)) (now (out .exit)) ⌝ }
 {
     let c = count_walk(table, to_commit(a), last_in(w));
     let t = write_head(out, w, a, c);
@@ -239,7 +239,7 @@ pub(crate) fn process_block(table: &mut [Slot], out: &mut [u8], w: Work) -> Sett
     ensures { λ r. ⌜ Settles (processedOf (now (table .entry)) w) (settleMost (length (now (table .entry)))) (now (out .entry)) (w .at) r (now (table .exit)) (now (out .exit)) ⌝ }
 {
     let a = admit(table, block_in(w));
-    conclude(table, out, w, a)
+    commit(table, out, w, a)
 }
 
 // SYNC, where a block waits for its parent. Any other settlement stays as it is.

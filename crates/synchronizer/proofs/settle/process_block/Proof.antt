@@ -1,4 +1,4 @@
--- `synchronizer::settle::process_block` meets its contract: a walk of its MIR. The table is lent as `&mut` to `admit`, and with the output as `&` to `conclude`.
+-- `synchronizer::settle::process_block` meets its contract: a walk of its MIR. The table is lent as `&mut` to `admit`, and with the output as `&` to `commit`.
 -- Assumes nothing.
 use mathlib.Core.Path.{_≡_, refl, subst}
 use Prim.Native.Nat.{ℕ, _+_, _≤_}
@@ -45,9 +45,9 @@ use Rattle.synchronizer.proofs.settle.block_in.Met as block-in-thm
 use Rattle.synchronizer.proofs.settle.admit.Symbol as admit-def
 use Rattle.synchronizer.proofs.settle.admit.Symbol.{name as #synchronizer·settle·admit}
 use Rattle.synchronizer.proofs.settle.admit.Met as admit-thm
-use Rattle.synchronizer.proofs.settle.conclude.Symbol as conclude-def
-use Rattle.synchronizer.proofs.settle.conclude.Symbol.{name as #synchronizer·settle·conclude}
-use Rattle.synchronizer.proofs.settle.conclude.Met as conclude-thm
+use Rattle.synchronizer.proofs.settle.commit.Symbol as commit-def
+use Rattle.synchronizer.proofs.settle.commit.Symbol.{name as #synchronizer·settle·commit}
+use Rattle.synchronizer.proofs.settle.commit.Met as commit-thm
 use Rattle.synchronizer.proofs.settle.process_block.Key.{name as #synchronizer·settle·process-block}
 use Rattle.synchronizer.proofs.settle.process_block as process-block
 use Rattle.synchronizer.proofs.settle.process_block.Statement as stated
@@ -60,7 +60,7 @@ stayed = (stay-slice (0 ∷ []) tt (plain (λ _. slot)), (stay-slice (1 ∷ []) 
 record Known {M : Type 1} (𝓤 : URA M) (H : Heap 𝓤) (A : Atoms 𝓤) (mem : Memory → SProp 𝓤) (run : Routine → Fun 𝓤) (𝓣 : Tables 𝓤 H) : Type 1 where
   block-in : Triple 𝓤 (𝓣 .C #synchronizer·settle·block-in) (U.BlockInMet 𝓤 H A mem run)
   admit : Triple 𝓤 (𝓣 .C #synchronizer·settle·admit) (U.AdmitMet 𝓤 H A mem run)
-  conclude : Triple 𝓤 (𝓣 .C #synchronizer·settle·conclude) (U.ConcludeMet 𝓤 H A mem run)
+  commit : Triple 𝓤 (𝓣 .C #synchronizer·settle·commit) (U.CommitMet 𝓤 H A mem run)
 
 module _ {M : Type 1} (𝓤 : URA M) (H : Heap 𝓤) (A : Atoms 𝓤) (W : Given 𝓤 H A) (mem : Memory → SProp 𝓤) (run : Routine → Fun 𝓤) (κ κ′ : Lft) (q q′ : Share) (b o : ℕ) (γ : GName) (ys : List Slot) (room : Room slot (length ys)) (b′ o′ : ℕ) (γ′ : GName) (xs : List ℕ) (room′ : Room u8 (length xs)) (w : Work) (w-is : Is work w (work-mach w ∷ [])) (pre : w .at + settleMost (length ys) ≤ length xs) where
   abbrev v : Val
@@ -98,8 +98,8 @@ module _ {M : Type 1} (𝓤 : URA M) (H : Heap 𝓤) (A : Atoms 𝓤) (W : Given
       sets ! 4 refl (agg ! (and-then ! (arg ! 6 refl) (and-then ! (load ! (from ! (fld ! refl (stop !))) (look-in ! 20 (sub ! 1 refl (whole !)))) (no-more !)))) (tt, (tt, (record { fits = room .0 }, tt))) $
       sets ! 2 refl (addr ! (from ! (fld ! refl (hop ! (look-in ! 18 (sub ! 0 refl (whole !))) (stop !))))) (tt, tt) $
       sets ! 0 refl (agg ! (and-then ! (arg ! 2 refl) (and-then ! (load ! (from ! (fld ! refl (stop !))) (look-in ! 18 (sub ! 1 refl (whole !)))) (no-more !)))) (tt, (tt, (record { fits = room′ .0 }, tt))) $
-      -- `conclude`, into _0
-      calls-both ! fm 24 24 (U.conclude-use 𝓤 H A mem run W 𝓣 (known .conclude) b o (length ys) (x₂ .1) (mut-as-shr 𝓤 H A slot b o (length ys) (x₂ .1) W (named 0) κ q γ (f₂ .1 .0)) b′ o′ (length xs) xs (mut-as-mut 𝓤 H A u8 b′ o′ (length xs) xs W (named 1) κ′ q′ γ′ refl room′) w (work-mach w) w-is (x₂ .0) z₂ (f₂ .1 .1) (process-room ys w (subst (λ (d : Slot). Admits ys d (x₂ .0) (x₂ .1)) (f₁ .0) (f₂ .0)) (length xs) pre)) refl refl (λ _. refl) (and-then ! (arg ! 4 refl) (and-then ! (arg ! 0 refl) (and-then ! (arg ! 16 refl) (and-then ! (arg ! 14 refl) (no-more !))))) (λ z₃ x₃ f₃. gets-in ! 22 refl (settled-typed 𝓤 H A W (x₃ .0) _ (f₃ .1 .1 .1)) $
+      -- `commit`, into _0
+      calls-both ! fm 24 24 (U.commit-use 𝓤 H A mem run W 𝓣 (known .commit) b o (length ys) (x₂ .1) (mut-as-shr 𝓤 H A slot b o (length ys) (x₂ .1) W (named 0) κ q γ (f₂ .1 .0)) b′ o′ (length xs) xs (mut-as-mut 𝓤 H A u8 b′ o′ (length xs) xs W (named 1) κ′ q′ γ′ refl room′) w (work-mach w) w-is (x₂ .0) z₂ (f₂ .1 .1) (process-room ys w (subst (λ (d : Slot). Admits ys d (x₂ .0) (x₂ .1)) (f₁ .0) (f₂ .0)) (length xs) pre)) refl refl (λ _. refl) (and-then ! (arg ! 4 refl) (and-then ! (arg ! 0 refl) (and-then ! (arg ! 16 refl) (and-then ! (arg ! 14 refl) (no-more !))))) (λ z₃ x₃ f₃. gets-in ! 22 refl (settled-typed 𝓤 H A W (x₃ .0) _ (f₃ .1 .1 .1)) $
       returns ! (look ! 22 refl) $ frees-at ! 22 refl refl $ frees-at ! 20 refl refl $ frees-at ! 18 refl refl $ frees-at ! 16 refl refl $ frees-at ! 14 refl refl $ frees-at ! 12 refl refl $ frees-at ! 10 refl refl $ frees-at ! 8 refl refl $ frees-at ! 6 refl refl $ frees-at ! 4 refl refl $ frees-at ! 2 refl refl $ frees-at ! 0 refl refl $ free0 ! $
       by ! (exits (x₃ .0) z₃ (f₃ .1 .1 .1) (x₂ .1) (x₃ .1 .1) (process-done ys w (subst (λ (d : Slot). Admits ys d (x₂ .0) (x₂ .1)) (f₁ .0) (f₂ .0)) (f₃ .0)) (f₂ .1 .0) (f₃ .1 .1 .0)))))))))))))))))
 
@@ -118,5 +118,5 @@ process-block-spec 𝓤 H 𝓜 𝓖 𝓡 =
     (process-block-meets 𝓤 H (𝓖 .A) (givenOf 𝓤 H 𝓜 𝓖) (𝓜 .mem) (𝓡 .run) (tablesOf 𝓤 H 𝓜 (tables 𝓤 H 𝓜 𝓡 code.env)) record {
       block-in = cited 𝓤 H (U.BlockInMet 𝓤 H (𝓖 .A) (𝓜 .mem) (𝓡 .run)) 𝓜 𝓡 code.env #synchronizer·settle·block-in block-in-def.routine code.calls-synchronizer·settle·block-in (block-in-thm.met 𝓤 H 𝓜 𝓖 𝓡);
       admit = cited 𝓤 H (U.AdmitMet 𝓤 H (𝓖 .A) (𝓜 .mem) (𝓡 .run)) 𝓜 𝓡 code.env #synchronizer·settle·admit admit-def.routine code.calls-synchronizer·settle·admit (admit-thm.met 𝓤 H 𝓜 𝓖 𝓡);
-      conclude = cited 𝓤 H (U.ConcludeMet 𝓤 H (𝓖 .A) (𝓜 .mem) (𝓡 .run)) 𝓜 𝓡 code.env #synchronizer·settle·conclude conclude-def.routine code.calls-synchronizer·settle·conclude (conclude-thm.met 𝓤 H 𝓜 𝓖 𝓡);
+      commit = cited 𝓤 H (U.CommitMet 𝓤 H (𝓖 .A) (𝓜 .mem) (𝓡 .run)) 𝓜 𝓡 code.env #synchronizer·settle·commit commit-def.routine code.calls-synchronizer·settle·commit (commit-thm.met 𝓤 H 𝓜 𝓖 𝓡);
     })

@@ -1,4 +1,4 @@
--- `synchronizer::settle::conclude` meets its contract: a walk of its MIR. The table is lent to `count_walk`, the output to `write_head`, and both to `write_commits`.
+-- `synchronizer::settle::commit` meets its contract: a walk of its MIR. The table is lent to `count_walk`, the output to `write_head`, and both to `write_commits`.
 -- Assumes nothing.
 use mathlib.Core.Path.{_≡_, refl, sym, subst}
 use Prim.Native.Nat.{ℕ, _<_, _^_}
@@ -38,8 +38,8 @@ use Rattle.synchronizer.specs.declared.ancestors.Ancestors.{Ancestors}
 use Rattle.synchronizer.specs.declared.settle.Work.{Work}
 use Rattle.synchronizer.specs.declared.settle.Settled.{Settled}
 use Rattle.synchronizer.specs.Settle.{settleMost, Settles}
-use Rattle.synchronizer.specs.Parts.{concludedOf, CommitsFit}
-use Rattle.synchronizer.proofs.SettleLaws.{conclude-room, conclude-done}
+use Rattle.synchronizer.specs.Parts.{committedOf, CommitsFit}
+use Rattle.synchronizer.proofs.SettleLaws.{commit-room, commit-done}
 use Rattle.synchronizer.proofs.Lent.{arg, sets, gets-in, held-two-at, frees-at, at-end-two, at-name, OwnShr, OwnMut, shr-as-shr, mut-as-mut, calls-plain, calls-held, calls-both}
 use Rattle.synchronizer.proofs.Row.{slot, slot-typed, ancestors, ancestors-mach, ancestors-vals, ancestors-tells, ancestors-makes, ancestors-typed, count-typed, chain-typed, work, work-mach, work-vals, work-tells, work-makes, work-typed, settled, settled-makes, settled-typed, round-typed}
 use Rattle.synchronizer.proofs.Uses as U
@@ -61,12 +61,12 @@ use Rattle.synchronizer.proofs.commit.write_commits.Met as write-commit
 use Rattle.synchronizer.proofs.settle.settled_by.Symbol as settled-by-def
 use Rattle.synchronizer.proofs.settle.settled_by.Symbol.{name as #synchronizer·settle·settled-by}
 use Rattle.synchronizer.proofs.settle.settled_by.Met as settled-by-thm
-use Rattle.synchronizer.proofs.settle.conclude.Key.{name as #synchronizer·settle·conclude}
-use Rattle.synchronizer.proofs.settle.conclude as conclude
-use Rattle.synchronizer.proofs.settle.conclude.Statement as stated
-use Rattle.synchronizer.proofs.settle.conclude.Code as code
+use Rattle.synchronizer.proofs.settle.commit.Key.{name as #synchronizer·settle·commit}
+use Rattle.synchronizer.proofs.settle.commit as commit
+use Rattle.synchronizer.proofs.settle.commit.Statement as stated
+use Rattle.synchronizer.proofs.settle.commit.Code as code
 
-abbrev stayed : Stays (conclude.ended .signature .params) (conclude.ended .kept)
+abbrev stayed : Stays (commit.ended .signature .params) (commit.ended .kept)
 stayed = (stay-none-slice (0 ∷ []) tt (plain (λ _. slot)) yes, (stay-slice (1 ∷ []) tt (plain (λ _. u8)), (stay-none (λ _. work) yes, (stay-none (λ _. ancestors) yes, tt))))
 
 -- what the callees are known to meet
@@ -85,19 +85,19 @@ module _ {M : Type 1} (𝓤 : URA M) (H : Heap 𝓤) (A : Atoms 𝓤) (W : Given
   abbrev v′ : Val
   v′ = sliceVal (b′, o′) (length xs)
 
-  abbrev y : walkOf 𝓤 H A conclude.ended stayed (conclude.clauses 𝓤 H A mem run) .Ghost
+  abbrev y : walkOf 𝓤 H A commit.ended stayed (commit.clauses 𝓤 H A mem run) .Ghost
   y = (((κ, (κ′, tt)), (q, (q′, tt)), tt, (at-name slot b o γ ys, (at-name u8 b′ o′ γ′ xs, (w, (a, tt)))), (v ∷ [], (v′ ∷ [], (work-mach w ∷ [], (ancestors-mach a ∷ [], tt))))), tt)
 
   abbrev Post : Val → SProp 𝓤
-  Post = walkOf 𝓤 H A conclude.ended stayed (conclude.clauses 𝓤 H A mem run) .post y
+  Post = walkOf 𝓤 H A commit.ended stayed (commit.clauses 𝓤 H A mem run) .post y
 
-  exits : (r : Settled) (z : Val) → Is settled r (z ∷ []) → (xs′ : List ℕ) → Settles (concludedOf ys w a) (settleMost (length ys)) xs (w .at) r ys xs′ → length xs′ ≡ length xs
+  exits : (r : Settled) (z : Val) → Is settled r (z ∷ []) → (xs′ : List ℕ) → Settles (committedOf ys w a) (settleMost (length ys)) xs (w .at) r ys xs′ → length xs′ ≡ length xs
       → ent 𝓤 (sep 𝓤 (sep 𝓤 (sem 𝓤 H A (OwnShr slot (named 0) κ b o (length ys) γ ys)) (A .lft κ q)) (sep 𝓤 (sem 𝓤 H A (OwnMut u8 (named 1) κ′ b′ o′ (length xs) γ′ xs′)) (A .lft κ′ q′))) (Post z)
   exits r z is xs′ e same′ =
       via 𝓤 _ (at-end-two 𝓤 H A W (work ∷ ancestors ∷ []) (work-makes 𝓤 H A, (ancestors-makes 𝓤 H A, tt)) (w, (a, tt)) (work-mach w ∷ [], (ancestors-mach a ∷ [], tt)) (w-is, (a-is, tt)) settled (settled-makes 𝓤 H A) r z is e κ κ′ q q′ (OwnShr slot (named 0) κ b o (length ys) γ ys) (OwnMut u8 (named 1) κ′ b′ o′ (length xs) γ′ xs′))
-      (ends-at 𝓤 H A conclude.ended stayed (conclude.clauses 𝓤 H A mem run) W y z r (tt, (xs′, (tt, (tt, tt)))) (tt, (same′, (tt, (tt, tt)))))
+      (ends-at 𝓤 H A commit.ended stayed (commit.clauses 𝓤 H A mem run) W y z r (tt, (xs′, (tt, (tt, tt)))) (tt, (same′, (tt, (tt, tt)))))
 
-  walk : (𝓣 : Tables 𝓤 H) → Known 𝓤 H A mem run 𝓣 → ent 𝓤 (onEntry 𝓤 H A conclude.signature (κ, (κ′, tt)) (q, (q′, tt)) (y .0 .3) (y .0 .4)) (WpFn 𝓤 H (𝓣 .C) (𝓣 .Λ) code.function (v ∷ v′ ∷ work-mach w ∷ ancestors-mach a ∷ []) Post)
+  walk : (𝓣 : Tables 𝓤 H) → Known 𝓤 H A mem run 𝓣 → ent 𝓤 (onEntry 𝓤 H A commit.signature (κ, (κ′, tt)) (q, (q′, tt)) (y .0 .3) (y .0 .4)) (WpFn 𝓤 H (𝓣 .C) (𝓣 .Λ) code.function (v ∷ v′ ∷ work-mach w ∷ ancestors-mach a ∷ []) Post)
   walk 𝓣 known =
       let fm : FmC 𝓤 H (W .laws) (𝓣 .C) = fmOf 𝓤 H (W .laws) 𝓣 in
       qed W ((‵ (flft κ q) ⊛ ‵ (flft κ′ q′) ⊛ ‵ ftrue) ∷ ‵ (owns (ShrSlice (named 0) κ slot ∷ MutSlice (named 1) κ′ u8 ∷ work ∷ ancestors ∷ []) (y .0 .3) (y .0 .4)) ∷ []) ∵ enter ! (𝓣 .C) (𝓣 .Λ) code.function (v ∷ v′ ∷ work-mach w ∷ ancestors-mach a ∷ []) _ $
@@ -117,25 +117,25 @@ module _ {M : Type 1} (𝓤 : URA M) (H : Heap 𝓤) (A : Atoms 𝓤) (W : Given
       sets ! 2 refl (addr ! (from ! (fld ! refl (hop ! (look-in ! 22 (sub ! 0 refl (whole !))) (stop !))))) (tt, tt) $
       sets ! 0 refl (agg ! (and-then ! (arg ! 2 refl) (and-then ! (load ! (from ! (fld ! refl (stop !))) (look-in ! 22 (sub ! 1 refl (whole !)))) (no-more !)))) (tt, (tt, (record { fits = room′ .0 }, tt))) $
       -- `write_commits`, into _11
-      calls-both ! fm 28 28 (U.write-commits-use 𝓤 H A mem run W 𝓣 (known .write-commits) b o (length ys) ys (shr-as-shr 𝓤 H A slot b o (length ys) ys W (named 0) κ q γ) b′ o′ (length xs) (x₄ .1) (mut-as-mut 𝓤 H A u8 b′ o′ (length xs) (x₄ .1) W (named 1) κ′ q′ γ′ (f₄ .1 .0) room′) (x₄ .0) z₄ (f₄ .1 .1) (conclude-room ys w a pre (f₄ .1 .0) (f₁ .0) (f₂ .0) (f₃ .0) (f₄ .0))) refl refl (λ _. refl) (and-then ! (arg ! 24 refl) (and-then ! (arg ! 0 refl) (and-then ! (arg ! 14 refl) (no-more !)))) (λ z₅ x₅ f₅. gets-in ! 4 refl (nothing-lawful 𝓤 H A W .typed (x₅ .0) _ (f₅ .1 .1 .1) .0) $
+      calls-both ! fm 28 28 (U.write-commits-use 𝓤 H A mem run W 𝓣 (known .write-commits) b o (length ys) ys (shr-as-shr 𝓤 H A slot b o (length ys) ys W (named 0) κ q γ) b′ o′ (length xs) (x₄ .1) (mut-as-mut 𝓤 H A u8 b′ o′ (length xs) (x₄ .1) W (named 1) κ′ q′ γ′ (f₄ .1 .0) room′) (x₄ .0) z₄ (f₄ .1 .1) (commit-room ys w a pre (f₄ .1 .0) (f₁ .0) (f₂ .0) (f₃ .0) (f₄ .0))) refl refl (λ _. refl) (and-then ! (arg ! 24 refl) (and-then ! (arg ! 0 refl) (and-then ! (arg ! 14 refl) (no-more !)))) (λ z₅ x₅ f₅. gets-in ! 4 refl (nothing-lawful 𝓤 H A W .typed (x₅ .0) _ (f₅ .1 .1 .1) .0) $
       -- `settled_by`, into _0
-      calls-plain ! fm (U.settled-by-use 𝓤 H A mem run W 𝓣 (known .settled-by) w (work-mach w) w-is a (ancestors-mach a) a-is (x₃ .0) z₃ (f₃ .1 .1) (x₄ .0) z₄ (f₄ .1 .1) (lt-of-le-of-lt (conclude-room ys w a pre (f₄ .1 .0) (f₁ .0) (f₂ .0) (f₃ .0) (f₄ .0)) (subst (λ (k : ℕ). k < 2 ^ 64) (sym (f₄ .1 .0)) (room′ .0)))) (and-then ! (arg ! 20 refl) (and-then ! (arg ! 18 refl) (and-then ! (arg ! 16 refl) (and-then ! (arg ! 14 refl) (no-more !))))) (λ z₆ x₆ f₆. gets-in ! 26 refl (settled-typed 𝓤 H A W x₆ _ (f₆ .1)) $
+      calls-plain ! fm (U.settled-by-use 𝓤 H A mem run W 𝓣 (known .settled-by) w (work-mach w) w-is a (ancestors-mach a) a-is (x₃ .0) z₃ (f₃ .1 .1) (x₄ .0) z₄ (f₄ .1 .1) (lt-of-le-of-lt (commit-room ys w a pre (f₄ .1 .0) (f₁ .0) (f₂ .0) (f₃ .0) (f₄ .0)) (subst (λ (k : ℕ). k < 2 ^ 64) (sym (f₄ .1 .0)) (room′ .0)))) (and-then ! (arg ! 20 refl) (and-then ! (arg ! 18 refl) (and-then ! (arg ! 16 refl) (and-then ! (arg ! 14 refl) (no-more !))))) (λ z₆ x₆ f₆. gets-in ! 26 refl (settled-typed 𝓤 H A W x₆ _ (f₆ .1)) $
       returns ! (look ! 26 refl) $ frees-at ! 26 refl refl $ frees-at ! 24 refl refl $ frees-at ! 22 refl refl $ frees-at ! 20 refl refl $ frees-at ! 18 refl refl $ frees-at ! 16 refl refl $ frees-at ! 14 refl refl $ frees-at ! 12 refl refl $ frees-at ! 10 refl refl $ frees-at ! 8 refl refl $ frees-at ! 6 refl refl $ frees-at ! 4 refl refl $ frees-at ! 2 refl refl $ frees-at ! 0 refl refl $ free0 ! $
-      by ! (exits x₆ z₆ (f₆ .1) (x₅ .1 .1) (conclude-done ys w a pre (f₄ .1 .0) (f₁ .0) (f₂ .0) (f₃ .0) (f₄ .0) (f₅ .0) (f₆ .0)) (f₅ .1 .1 .0))))))))))))))))))))))
+      by ! (exits x₆ z₆ (f₆ .1) (x₅ .1 .1) (commit-done ys w a pre (f₄ .1 .0) (f₁ .0) (f₂ .0) (f₃ .0) (f₄ .0) (f₅ .0) (f₆ .0)) (f₅ .1 .1 .0))))))))))))))))))))))
 
-conclude-meets : {M : Type 1} (𝓤 : URA M) (H : Heap 𝓤) (A : Atoms 𝓤) → Given 𝓤 H A → (mem : Memory → SProp 𝓤) (run : Routine → Fun 𝓤) (𝓣 : Tables 𝓤 H) → Known 𝓤 H A mem run 𝓣
-    → Meets 𝓤 H A conclude.signature (WpFn 𝓤 H (𝓣 .C) (𝓣 .Λ) code.function) (conclude.spec 𝓤 H A mem run)
-conclude-meets 𝓤 H A W mem run 𝓣 known =
-    walk-meets 𝓤 H A conclude.ended stayed W (goes-none-slice 𝓤 H A W 2 (0 ∷ []) tt (plain (λ _. slot)) yes, (goes-slice 𝓤 H A W 2 1 tt (plain (λ _. u8)), (goes-none 𝓤 H A W 2 (λ _. work) yes (λ κs x f. refl), (goes-none 𝓤 H A W 2 (λ _. ancestors) yes (λ κs x f. refl), tt)))) (conclude.clauses 𝓤 H A mem run) (WpFn 𝓤 H (𝓣 .C) (𝓣 .Λ) code.function) (WpFn-mono 𝓤 H (W .laws) 𝓣 code.function)
-    (walked 𝓤 H A conclude.ended stayed (conclude.clauses 𝓤 H A mem run) (WpFn 𝓤 H (𝓣 .C) (𝓣 .Λ) code.function) (λ κs. (slice-vals, (slice-vals, (work-vals, (ancestors-vals, tt))))) (λ κs. (shr-slice-tells (named 0) (κs .0) slot, (mut-slice-tells (named 1) (κs .1 .0) u8, (work-tells, (ancestors-tells, tt)))))
+commit-meets : {M : Type 1} (𝓤 : URA M) (H : Heap 𝓤) (A : Atoms 𝓤) → Given 𝓤 H A → (mem : Memory → SProp 𝓤) (run : Routine → Fun 𝓤) (𝓣 : Tables 𝓤 H) → Known 𝓤 H A mem run 𝓣
+    → Meets 𝓤 H A commit.signature (WpFn 𝓤 H (𝓣 .C) (𝓣 .Λ) code.function) (commit.spec 𝓤 H A mem run)
+commit-meets 𝓤 H A W mem run 𝓣 known =
+    walk-meets 𝓤 H A commit.ended stayed W (goes-none-slice 𝓤 H A W 2 (0 ∷ []) tt (plain (λ _. slot)) yes, (goes-slice 𝓤 H A W 2 1 tt (plain (λ _. u8)), (goes-none 𝓤 H A W 2 (λ _. work) yes (λ κs x f. refl), (goes-none 𝓤 H A W 2 (λ _. ancestors) yes (λ κs x f. refl), tt)))) (commit.clauses 𝓤 H A mem run) (WpFn 𝓤 H (𝓣 .C) (𝓣 .Λ) code.function) (WpFn-mono 𝓤 H (W .laws) 𝓣 code.function)
+    (walked 𝓤 H A commit.ended stayed (commit.clauses 𝓤 H A mem run) (WpFn 𝓤 H (𝓣 .C) (𝓣 .Λ) code.function) (λ κs. (slice-vals, (slice-vals, (work-vals, (ancestors-vals, tt))))) (λ κs. (shr-slice-tells (named 0) (κs .0) slot, (mut-slice-tells (named 1) (κs .1 .0) u8, (work-tells, (ancestors-tells, tt)))))
     (λ κs qs bounds a g are. needs 𝓤 _ _ (λ pre. walk 𝓤 H A W mem run (κs .0) (κs .1 .0) (qs .0) (qs .1 .0) (a .0 .ptr .0) (a .0 .ptr .1) (a .0 .name) (a .0 .now) (are .0 .0 .1) (a .1 .0 .ptr .0) (a .1 .0 .ptr .1) (a .1 .0 .name) (a .1 .0 .now) (are .1 .0 .0 .1) (a .1 .1 .0) (are .1 .1 .0) (a .1 .1 .1 .0) (are .1 .1 .1 .0) pre 𝓣 known)))
 
-pub conclude-spec : {M : Type 1} → stated.statement M
+pub commit-spec : {M : Type 1} → stated.statement M
 unfolding code.routine tablesOf
-conclude-spec 𝓤 H 𝓜 𝓖 𝓡 =
-    entered 𝓤 H (tripleOf 𝓤 H (𝓖 .A) conclude.signature (conclude.spec 𝓤 H (𝓖 .A) (𝓜 .mem) (𝓡 .run)))
-    (tables 𝓤 H 𝓜 𝓡 code.env .C) (tables 𝓤 H 𝓜 𝓡 code.env .Λ) #synchronizer·settle·conclude code.function (code.unfolded 𝓤 H 𝓜 𝓡)
-    (conclude-meets 𝓤 H (𝓖 .A) (givenOf 𝓤 H 𝓜 𝓖) (𝓜 .mem) (𝓡 .run) (tablesOf 𝓤 H 𝓜 (tables 𝓤 H 𝓜 𝓡 code.env)) record {
+commit-spec 𝓤 H 𝓜 𝓖 𝓡 =
+    entered 𝓤 H (tripleOf 𝓤 H (𝓖 .A) commit.signature (commit.spec 𝓤 H (𝓖 .A) (𝓜 .mem) (𝓡 .run)))
+    (tables 𝓤 H 𝓜 𝓡 code.env .C) (tables 𝓤 H 𝓜 𝓡 code.env .Λ) #synchronizer·settle·commit code.function (code.unfolded 𝓤 H 𝓜 𝓡)
+    (commit-meets 𝓤 H (𝓖 .A) (givenOf 𝓤 H 𝓜 𝓖) (𝓜 .mem) (𝓡 .run) (tablesOf 𝓤 H 𝓜 (tables 𝓤 H 𝓜 𝓡 code.env)) record {
       to-commit = cited 𝓤 H (U.ToCommitMet 𝓤 H (𝓖 .A) (𝓜 .mem) (𝓡 .run)) 𝓜 𝓡 code.env #synchronizer·settle·to-commit to-commit-def.routine code.calls-synchronizer·settle·to-commit (to-commit-thm.met 𝓤 H 𝓜 𝓖 𝓡);
       last-in = cited 𝓤 H (U.LastInMet 𝓤 H (𝓖 .A) (𝓜 .mem) (𝓡 .run)) 𝓜 𝓡 code.env #synchronizer·settle·last-in last-in-def.routine code.calls-synchronizer·settle·last-in (last-in-thm.met 𝓤 H 𝓜 𝓖 𝓡);
       count-walk = cited 𝓤 H (U.CountWalkMet 𝓤 H (𝓖 .A) (𝓜 .mem) (𝓡 .run)) 𝓜 𝓡 code.env #synchronizer·commit·count-walk count-walk-def.routine code.calls-synchronizer·commit·count-walk (count-walk-thm.met 𝓤 H 𝓜 𝓖 𝓡);
