@@ -5,16 +5,17 @@
 --     append-part                                an author counted in a row that is lent as a part
 --     added-vote-..., added-timeout-...          the ways out of `add_vote` and `add_timeout`, and what they ask on the way
 --     added-no-room, added-used, added-below     what an answer says
---     under-..., look-..., are-light-...         the ways of `weights_of`, `any_heavy` and `are_light`
+--     joined-..., look-..., are-light-...        the ways of `weights_of`, `any_heavy` and `are_light`
 --     highs-...                                  the high rounds
 --     Each, each-...                             what holds of every tally in use, and goes on to hold
 -- Assumes nothing.
-use Prim.Native.Nat.{ℕ, _+_, _-_, _*_, _≤_, _<_, _^_}
+use Prim.Native.Nat.{ℕ, zero, suc, _+_, _-_, _*_, _≤_, _<_, _^_}
 use mathlib.Core.Bool.{Bool, true, false, not, cond, _||_}
 use mathlib.Core.List.{List}
 use mathlib.Core.Logic.{⊎-elim}
 use mathlib.Core.Path.{_≡_, refl, sym, ap, _∙_}
 use native.Mathlib.Nat.{eq-or-lt-of-le}
+use native.Mathlib.Numerals.{add-one}
 use native.Mathlib.Omega.{arith}
 use borrow.Author.Tests.{eq-eqb, ne-eqb, eqb-true}
 use borrow.Rule.Slice.PartMut.{putMid}
@@ -29,7 +30,7 @@ use Rattle.aggregator.specs.declared.tallies.Found.{Found}
 use Rattle.aggregator.specs.declared.tallies.Found.the-variants.{At, Nothing}
 use Rattle.aggregator.specs.Rows.{zeros, row, withRow, FoundAs}
 use Rattle.aggregator.specs.Tally.{fields, places, voteWidth, timeoutWidth, usedOf, roundOf, weightOf, namesOf, isFree, isVote, roundWith, ofRound, heavyWith, isHeavy, kept, newVote, newTimeout, hasName, noHigh, withHigh, withAuthor, counted, answerOf, AddedAs}
-use Rattle.aggregator.specs.Tallies.{voteTallies, timeoutTallies, timeoutsLength, totalMax, findRow, findFree, findHeavy, heavy, anyHeavy, Light, Under, dropped, firstOf, placeFor, opened, tableFor, TallyFor, Countable, answerAt, tableAt, added, after, voteAdded, votesAfter, timeoutAdded, timeoutsAfter, highsAt, HighsAs}
+use Rattle.aggregator.specs.Tallies.{voteTallies, timeoutTallies, timeoutsLength, totalMax, findRow, findFree, findHeavy, heavy, anyHeavy, Light, joined, dropped, firstOf, placeFor, opened, tableFor, TallyFor, Countable, answerAt, tableAt, added, after, voteAdded, votesAfter, timeoutAdded, timeoutsAfter, highsAt, HighsAs}
 use Rattle.aggregator.proofs.Rows.{part-row, put-as, row-first, row-at, row-within, Scanned, scan-start, scan-hit, scan-miss, scan-end, scan-past, lowest-below, lowest-holds, none-lowest, withRow-same, withRow-row, withRow-length, withRow-each, mapRows-row, zeros-row}
 use Rattle.aggregator.proofs.TallyLaws.{heavy-under, used-has, answer-some, answer-row, kept-length, kept-used, name-none, Kind, vote-kind, timeout-kind}
 
@@ -276,18 +277,22 @@ or-le-l a b = omega (arith, or-add-and a b, and-le-r a b)
 or-le-r : (a b : ℕ) → b ≤ bitOr a b
 or-le-r a b = omega (arith, or-add-and a b, and-le-l a b)
 
-pub under-start : (w : ℕ) (v : List ℕ) → Under w 0 v 0
-under-start w v = record { weight = λ i b. absurd (omega arith) }
+pub joined-none : (w : ℕ) (v : List ℕ) → 0 ≡ joined w 0 v
+unfolding joined
+joined-none w v = refl
 
 -- one weight more
-pub under-more : (w i : ℕ) (v : List ℕ) (all : ℕ) → fields ≤ w → Under w i v all → Under w (i + 1) v (bitOr all (getD v (i * w + 2) 0))
-under-more w i v all wide h =
-    let x = getD v (i * w + 2) 0 in
-    record {
-      weight = λ k b.
-          ⊎-elim (λ (z : k ≡ i). rw (z, row-at w i 2 v (omega arith)) (or-le-r all x)) (λ (z : k < i). omega (arith, h .weight k z, or-le-l all x))
-          (eq-or-lt-of-le (omega arith));
-    }
+pub joined-more : (w i : ℕ) (v : List ℕ) {all : ℕ} → fields ≤ w → all ≡ joined w i v → bitOr all (getD v (i * w + 2) 0) ≡ joined w (i + 1) v
+unfolding joined
+joined-more w i v wide h = rw (h, ← row-at w i 2 v (omega arith), add-one)
+
+-- no weight is above it
+joined-above : (w n i : ℕ) (v : List ℕ) → i < n → weightOf (row w v i) ≤ joined w n v
+unfolding joined
+joined-above w zero i v h = absurd (omega arith)
+joined-above w (suc n) i v h =
+    let x = weightOf (row w v n) in
+    ⊎-elim (λ (z : i ≡ n). rw z (or-le-r (joined w n v) x)) (λ (z : i < n). omega (arith, joined-above w n i v z, or-le-l (joined w n v) x)) (eq-or-lt-of-le (omega arith))
 
 -- ---- the ways of `any_heavy`
 
@@ -309,10 +314,10 @@ module _ (w n : ℕ) (v : List ℕ) (total : ℕ) where
   heavy-none f = rw (← f .is)
 
   -- where no weight is above the total, none in use is
-  heavy-never : {top : ℕ} → Under w n v top → top ≤ total → heavy w n v total ≡ false
+  heavy-never : joined w n v ≤ total → heavy w n v total ≡ false
   unfolding heavy findHeavy findRow
-  heavy-never h l =
-      rw (none-lowest (isHeavy total) w v n 0 (λ i a b. sym (heavy-under (usedOf (row w v i)) (weightOf (row w v i)) total (omega (arith, h .weight i (omega arith))))))
+  heavy-never l =
+      rw (none-lowest (isHeavy total) w v n 0 (λ i a b. sym (heavy-under (usedOf (row w v i)) (weightOf (row w v i)) total (omega (arith, joined-above w n i v (omega arith))))))
 
 module _ {votes timeouts : List ℕ} {total i : ℕ} (s : Looked votes timeouts total i) where
   pub look-end : voteTallies ≤ i → false ≡ anyHeavy votes timeouts total
@@ -346,11 +351,11 @@ module _ {votes timeouts : List ℕ} {total i : ℕ} (s : Looked votes timeouts 
 -- ---- the ways out of `are_light`
 
 module _ (votes timeouts : List ℕ) (total : ℕ) where
-  pub are-light-under : {a b : ℕ} → Under voteWidth voteTallies votes a → Under timeoutWidth timeoutTallies timeouts b → bitOr a b ≤ total
+  pub are-light-joined : {a b : ℕ} → a ≡ joined voteWidth voteTallies votes → b ≡ joined timeoutWidth timeoutTallies timeouts → bitOr a b ≤ total
       → true ≡ not (anyHeavy votes timeouts total)
   unfolding anyHeavy
-  are-light-under {a} {b} h k l =
-      rw (heavy-never voteWidth voteTallies votes total h (omega (arith, or-le-l a b)), heavy-never timeoutWidth timeoutTallies timeouts total k (omega (arith, or-le-r a b)))
+  are-light-joined {a} {b} h k l =
+      rw (heavy-never voteWidth voteTallies votes total (omega (arith, h, or-le-l a b)), heavy-never timeoutWidth timeoutTallies timeouts total (omega (arith, k, or-le-r a b)))
 
   module _ {b : Bool} (is : b ≡ anyHeavy votes timeouts total) where
     pub are-light-not : b ≡ true → false ≡ not (anyHeavy votes timeouts total)

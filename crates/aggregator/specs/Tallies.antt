@@ -7,7 +7,7 @@
 --     findHeavy w n v total, heavy w n v total      the lowest in use that is heavier than the total; whether there is one (isAt)
 --     anyHeavy votes timeouts total       whether there is one in the table of votes or in that of timeouts
 --     Light w n v total                   none in use is heavier than the total
---     Under w n v top                     no tally, in use or not, is heavier than `top`
+--     joined w n v                        every bit that the weight of some of the n tallies has, in use or not
 --     dropped w n v round                 the table once the round is `round`
 --     placeFor test w n v                 the row of the tally that passes the test, or of a new one; Nothing if all are held (firstOf)
 --     tableFor test new w n v             the table with that tally in it, `new` where there was none (opened)
@@ -19,10 +19,11 @@
 --     timeoutAdded, timeoutsAfter         the two for a timeout
 --     highsAt v i                         the high rounds of the timeout tally in row i, by place
 --     HighsAs v i h                       h is those, one for each place
-use Prim.Native.Nat.{ℕ, _*_, _≤_, _<_}
+use Prim.Native.Nat.{ℕ, zero, suc, _*_, _≤_, _<_}
 use mathlib.Core.Bool.{Bool, true, false, cond, _||_}
 use mathlib.Core.List.{List}
 use mathlib.Core.Path.{_≡_}
+use lib.Bits.{bitOr}
 use lib.ListN.{length, drop}
 use Rattle.certificates.specs.Config as limits
 use Rattle.certificates.specs.declared.numbers.Hash.{Hash}
@@ -74,8 +75,10 @@ anyHeavy votes timeouts total = heavy voteWidth voteTallies votes total || heavy
 pub record Light (w n : ℕ) (v : List ℕ) (total : ℕ) : Type 0 where
   pub weight : (i : ℕ) → i < n → (usedOf (row w v i) ≡ 0 → ⊥) → weightOf (row w v i) ≤ total
 
-pub record Under (w n : ℕ) (v : List ℕ) (top : ℕ) : Type 0 where
-  pub weight : (i : ℕ) → i < n → weightOf (row w v i) ≤ top
+-- no weight is above it, so where it is within the total all are
+unfoldable pub joined : ℕ → ℕ → List ℕ → ℕ
+joined w zero v = 0
+joined w (suc n) v = bitOr (joined w n v) (weightOf (row w v n))
 
 -- Advance: "tallies below it are dropped and their room is used again"
 unfoldable pub dropped : ℕ → ℕ → List ℕ → ℕ → List ℕ

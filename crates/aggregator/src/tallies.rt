@@ -30,7 +30,7 @@ ghost use Prim.Native.Nat.{_+_, _*_, _≤_, _<_, _^_};
 ghost use lib.ListN.{length};
 ghost use Rattle.aggregator.specs.Rows.{row, withRow, FoundAs, zeros};
 ghost use Rattle.aggregator.specs.Tally.{fields, places, voteWidth, timeoutWidth, weightOf, isVote, ofRound, newVote, newTimeout, noHigh, withHigh, answerOf, counted, AddedAs};
-ghost use Rattle.aggregator.specs.Tallies.{voteTallies, timeoutTallies, votesLength, timeoutsLength, findRow, findFree, anyHeavy, Under, dropped, TallyFor, Countable, voteAdded, votesAfter, timeoutAdded, timeoutsAfter, HighsAs};
+ghost use Rattle.aggregator.specs.Tallies.{voteTallies, timeoutTallies, votesLength, timeoutsLength, findRow, findFree, anyHeavy, joined, dropped, TallyFor, Countable, voteAdded, votesAfter, timeoutAdded, timeoutsAfter, HighsAs};
 
 pub const VOTE_TALLIES: usize = 32;
 
@@ -269,10 +269,10 @@ pub fn cleanup_timeouts(timeouts: &mut [u64], round: Round)
     cleanup(timeouts, TIMEOUT_WIDTH, TIMEOUT_TALLIES, round);
 }
 
-// Every bit that the weight of some of n tallies has, each w wide. No weight is above it.
+// Every bit that the weight of some of n tallies has, each w wide.
 fn weights_of(v: &[u64], w: usize, n: usize) -> u64
     requires { ⌜ (fields ≤ w) × (n * w ≤ length (now v)) ⌝ }
-    ensures { λ r. ⌜ Under w n (now (v .entry)) r ⌝ }
+    ensures { λ r. ⌜ r ≡ joined w n (now (v .entry)) ⌝ }
 {
     let mut all: u64 = 0;
     let mut i: usize = 0;

@@ -69,6 +69,7 @@ pub struct Lent<'a> {
 }
 
 /// One event: the answer's number, and how many bytes of `out` were written.
+#[inline]
 pub fn step(lent: &mut Lent, record: &[u8]) -> (u16, usize) {
     let m = lent;
     // SAFETY: each pointer and length is a slice's, the slices are apart, and the call keeps none of them.
@@ -96,6 +97,7 @@ pub fn step(lent: &mut Lent, record: &[u8]) -> (u16, usize) {
 }
 
 /// The memory becomes that of a new replica, which counts as not started. The table and the output stay.
+#[inline]
 pub fn clear(lent: &mut Lent) {
     let m = lent;
     // SAFETY: as in `step`.
@@ -116,21 +118,25 @@ pub fn clear(lent: &mut Lent) {
 }
 
 /// How many bytes the record at the front of a trace takes: 0 at the end, 1 where it is cut or too long.
+#[inline]
 pub fn record(trace: &[u8]) -> usize {
     // SAFETY: the pointer and the length are a slice's.
     unsafe { c::nickelhush_record(trace.as_ptr(), trace.len()) }
 }
 
+#[inline]
 pub fn round(core: &[u64]) -> u64 {
     // SAFETY: as in `record`.
     unsafe { c::nickelhush_round(core.as_ptr(), core.len()) }
 }
 
+#[inline]
 pub fn last_voted(core: &[u64]) -> u64 {
     // SAFETY: as in `record`.
     unsafe { c::nickelhush_last_voted(core.as_ptr(), core.len()) }
 }
 
+#[inline]
 pub fn last_committed(core: &[u64]) -> u64 {
     // SAFETY: as in `record`.
     unsafe { c::nickelhush_last_committed(core.as_ptr(), core.len()) }
@@ -138,12 +144,14 @@ pub fn last_committed(core: &[u64]) -> u64 {
 
 /// A size to lend, by the numbers of the header: 0 seat, 1 core, 2 stakes, 3 votes, 4 timeouts, 5 the most slots, 6 the
 /// most bytes of a record after its length.
+#[inline]
 pub fn size(part: u32) -> usize {
     // SAFETY: numbers only.
     unsafe { c::nickelhush_size(part) }
 }
 
 /// The bytes of output to lend with a table of so many slots, and 0 where no table has so many.
+#[inline]
 pub fn room(slots: usize) -> usize {
     // SAFETY: numbers only.
     unsafe { c::nickelhush_room(slots) }

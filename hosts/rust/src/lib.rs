@@ -125,6 +125,7 @@ impl Replica {
 
     /// One event: the record's kind and body, without its length. The bytes are the records that it wrote, without an
     /// ANSWER; [`Records`] takes them apart.
+    #[inline]
     pub fn step(&mut self, record: &[u8]) -> (Answer, &[u8]) {
         let mut memory = lent::Lent {
             seat: &mut self.seat,

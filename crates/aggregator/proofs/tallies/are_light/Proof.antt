@@ -1,7 +1,7 @@
 -- `aggregator::tallies::are_light` meets its contract: a law for each way out.
 -- Assumes nothing.
 use borrow.Author.Needs.{needs}
-use Rattle.aggregator.proofs.TableLaws.{are-light-under, are-light-not, are-light-all}
+use Rattle.aggregator.proofs.TableLaws.{are-light-joined, are-light-not, are-light-all}
 use Rattle.aggregator.proofs.tallies.are_light.Statement.{statement}
 use Rattle.aggregator.proofs.tallies.are_light.Tie as tie
 
@@ -15,7 +15,7 @@ cast-if1 : tie.Need-cast-if1
 cast-if1 c = search needs
 
 returns : tie.Need-returns
-returns c = search (needs, are-light-under)
+returns c = search (needs, are-light-joined)
 
 any-heavy-requires : tie.Need-any-heavy-requires
 any-heavy-requires c κs = search needs

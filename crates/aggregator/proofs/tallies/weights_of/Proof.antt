@@ -1,24 +1,24 @@
--- `aggregator::tallies::weights_of` meets its contract: no weight of the first i tallies is above what the loop has (`Under`). The measure is what is left.
+-- `aggregator::tallies::weights_of` meets its contract: the loop has what the first i tallies have (`joined`). The measure is what is left.
 -- Assumes nothing.
 use Prim.Native.Nat.{_+_, _-_, _*_, _≤_}
 use mathlib.Core.Path.{_≡_}
 use native.Mathlib.Omega.{arith}
 use lib.ListN.{length}
 use borrow.Author.Needs.{needs}
-use Rattle.aggregator.specs.Tallies.{Under}
+use Rattle.aggregator.specs.Tallies.{joined}
 use Rattle.aggregator.proofs.Rows.{row-end}
-use Rattle.aggregator.proofs.TableLaws.{under-start, under-more}
+use Rattle.aggregator.proofs.TableLaws.{joined-none, joined-more}
 use Rattle.aggregator.proofs.tallies.weights_of.Statement.{statement}
 use Rattle.aggregator.proofs.tallies.weights_of.Tie as tie
 
 abbrev Inv-loop : tie.InvT-loop
-Inv-loop v w n all₀ i₀ all i = (i ≤ n) × Under w i v all
+Inv-loop v w n all₀ i₀ all i = (i ≤ n) × (all ≡ joined w i v)
 
 abbrev μ-loop : tie.MeasureT-loop
 μ-loop v w n all₀ i₀ all i = n - i
 
 loop-holds : tie.Need-loop-holds Inv-loop μ-loop
-loop-holds c = (search needs, search (needs, under-start))
+loop-holds c = (search needs, search (needs, joined-none))
 
 -- the row lies in the table
 within : (c : tie.In-loop Inv-loop μ-loop) → c .before .loop .i * c .before .before .args .w + c .before .before .args .w ≤ length (c .before .before .args .v .now)
@@ -43,7 +43,7 @@ loop-less : tie.Need-loop-less Inv-loop μ-loop
 loop-less c = search needs
 
 loop-again : tie.Need-loop-again Inv-loop μ-loop
-loop-again c = (omega arith, search (needs, under-more))
+loop-again c = (omega arith, search (needs, joined-more))
 
 returns : tie.Need-returns Inv-loop μ-loop
 returns c =

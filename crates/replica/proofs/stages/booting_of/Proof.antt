@@ -21,19 +21,19 @@ enum-told : tie.Need-enum-told
 enum-told c = search needs
 
 returns : tie.Need-returns
-returns c = search (needs, booting-bad, booting-good, booting-sizeless, booting-roomless)
+returns c = search (needs, booting-bad)
 
 enum-known-total : tie.Need-enum-known-total
 enum-known-total c = search needs
 
 returns-2 : tie.Need-returns-2
-returns-2 c = search (needs, booting-bad, booting-good, booting-sizeless, booting-roomless)
+returns-2 c = search (needs, booting-good)
 
 returns-3 : tie.Need-returns-3
-returns-3 c = search (needs, booting-bad, booting-good, booting-sizeless, booting-roomless)
+returns-3 c = search (needs, booting-sizeless)
 
 returns-4 : tie.Need-returns-4
-returns-4 c = search (needs, booting-bad, booting-good, booting-sizeless, booting-roomless)
+returns-4 c = search (needs, booting-roomless)
 
 pub booting-of-spec : {M : Type 1} → statement M
 booting-of-spec =

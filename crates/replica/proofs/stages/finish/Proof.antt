@@ -26,10 +26,10 @@ returns c =
     finish-votes _ _ (start .args .b .core) _ _ _ (start .args .b .answer) _ _ _ _ (c .before .before .before .before .before .before .before .before .before .before .before .before .before .if1 .taken) (c .before .before .before .before .before .before .before .before .before .before .if2 .taken) (c .before .before .before .before .before .before .conclude .ensures)
 
 returns-2 : tie.Need-returns-2
-returns-2 c = search (needs, finish-votes, finish-refused, finish-ended)
+returns-2 c = search (needs, finish-refused)
 
 returns-3 : tie.Need-returns-3
-returns-3 c = search (needs, finish-votes, finish-refused, finish-ended)
+returns-3 c = search (needs, finish-ended)
 
 pub finish-spec : {M : Type 1} → statement M
 finish-spec =

@@ -74,10 +74,10 @@ of-ran-requires-4 : tie.Need-of-ran-requires-4
 of-ran-requires-4 c κs = search needs
 
 returns : tie.Need-returns
-returns c = search (needs, handle-bad, handle-start, handle-propose, handle-vote, handle-timeout, handle-tc, handle-loopback, handle-tick)
+returns c = search (needs, handle-bad)
 
 returns-2 : tie.Need-returns-2
-returns-2 c = search (needs, handle-bad, handle-start, handle-propose, handle-vote, handle-timeout, handle-tc, handle-loopback, handle-tick)
+returns-2 c = search (needs, handle-start)
 
 same-length : tie.Need-same-length
 same-length c = search needs
@@ -89,7 +89,7 @@ same-length-3 : tie.Need-same-length-3
 same-length-3 c = search needs
 
 returns-3 : tie.Need-returns-3
-returns-3 c = search (needs, handle-bad, handle-start, handle-propose, handle-vote, handle-timeout, handle-tc, handle-loopback, handle-tick)
+returns-3 c = search (needs, handle-propose)
 
 same-length-4 : tie.Need-same-length-4
 same-length-4 c = search needs
@@ -101,7 +101,7 @@ same-length-6 : tie.Need-same-length-6
 same-length-6 c = search needs
 
 returns-4 : tie.Need-returns-4
-returns-4 c = search (needs, handle-bad, handle-start, handle-propose, handle-vote, handle-timeout, handle-tc, handle-loopback, handle-tick)
+returns-4 c = search (needs, handle-vote)
 
 same-length-7 : tie.Need-same-length-7
 same-length-7 c = search needs
@@ -113,7 +113,7 @@ same-length-9 : tie.Need-same-length-9
 same-length-9 c = search needs
 
 returns-5 : tie.Need-returns-5
-returns-5 c = search (needs, handle-bad, handle-start, handle-propose, handle-vote, handle-timeout, handle-tc, handle-loopback, handle-tick)
+returns-5 c = search (needs, handle-timeout)
 
 same-length-10 : tie.Need-same-length-10
 same-length-10 c = search needs
@@ -125,10 +125,10 @@ same-length-12 : tie.Need-same-length-12
 same-length-12 c = search needs
 
 returns-6 : tie.Need-returns-6
-returns-6 c = search (needs, handle-bad, handle-start, handle-propose, handle-vote, handle-timeout, handle-tc, handle-loopback, handle-tick)
+returns-6 c = search (needs, handle-tc)
 
 returns-7 : tie.Need-returns-7
-returns-7 c = search (needs, handle-bad, handle-start, handle-propose, handle-vote, handle-timeout, handle-tc, handle-loopback, handle-tick)
+returns-7 c = search (needs, handle-loopback)
 
 same-length-13 : tie.Need-same-length-13
 same-length-13 c = search needs
@@ -140,7 +140,7 @@ same-length-15 : tie.Need-same-length-15
 same-length-15 c = search needs
 
 returns-8 : tie.Need-returns-8
-returns-8 c = search (needs, handle-bad, handle-start, handle-propose, handle-vote, handle-timeout, handle-tc, handle-loopback, handle-tick)
+returns-8 c = search (needs, handle-tick)
 
 pub handle-spec : {M : Type 1} → statement M
 handle-spec =

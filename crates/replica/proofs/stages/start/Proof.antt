@@ -24,13 +24,13 @@ enum-known-total : tie.Need-enum-known-total
 enum-known-total c = search needs
 
 boot-requires : tie.Need-boot-requires
-boot-requires c κs = search (needs, boot-needs, start-no-room, start-bad-setup, start-boots)
+boot-requires c κs = search (needs, boot-needs)
 
 returns : tie.Need-returns
-returns c = search (needs, boot-needs, start-no-room, start-bad-setup, start-boots)
+returns c = search (needs, start-no-room)
 
 returns-2 : tie.Need-returns-2
-returns-2 c = search (needs, boot-needs, start-no-room, start-bad-setup, start-boots)
+returns-2 c = search (needs, start-bad-setup)
 
 same-length : tie.Need-same-length
 same-length c = search needs
@@ -45,7 +45,7 @@ same-length-4 : tie.Need-same-length-4
 same-length-4 c = search needs
 
 returns-3 : tie.Need-returns-3
-returns-3 c = search (needs, boot-needs, start-no-room, start-bad-setup, start-boots)
+returns-3 c = search (needs, start-boots)
 
 pub start-spec : {M : Type 1} → statement M
 start-spec =

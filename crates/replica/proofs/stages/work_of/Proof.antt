@@ -12,13 +12,13 @@ slot-of-requires : tie.Need-slot-of-requires
 slot-of-requires c κs = search needs
 
 returns : tie.Need-returns
-returns c = search (needs, work-block, work-other)
+returns c = search (needs, work-block)
 
 no-slot-requires : tie.Need-no-slot-requires
 no-slot-requires c κs = search needs
 
 returns-2 : tie.Need-returns-2
-returns-2 c = search (needs, work-block, work-other)
+returns-2 c = search (needs, work-other)
 
 pub work-of-spec : {M : Type 1} → statement M
 work-of-spec =

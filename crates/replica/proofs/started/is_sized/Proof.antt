@@ -12,13 +12,13 @@ mul-result : tie.Need-mul-result
 mul-result c = search needs
 
 returns : tie.Need-returns
-returns c = search (needs, sized-all, sized-votes, sized-stakes)
+returns c = search (needs, sized-all)
 
 returns-2 : tie.Need-returns-2
-returns-2 c = search (needs, sized-all, sized-votes, sized-stakes)
+returns-2 c = search (needs, sized-votes)
 
 returns-3 : tie.Need-returns-3
-returns-3 c = search (needs, sized-all, sized-votes, sized-stakes)
+returns-3 c = search (needs, sized-stakes)
 
 pub is-sized-spec : {M : Type 1} → statement M
 is-sized-spec = tie.close (tie.spec mul-if2 mul-result returns returns-2 returns-3)

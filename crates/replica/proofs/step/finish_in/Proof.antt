@@ -21,7 +21,7 @@ same-length-3 : tie.Need-same-length-3
 same-length-3 c = search needs
 
 returns : tie.Need-returns
-returns c = search (needs, finish-part, finish-part-needs)
+returns c = search (needs, finish-part)
 
 pub finish-in-spec : {M : Type 1} → statement M
 finish-in-spec =

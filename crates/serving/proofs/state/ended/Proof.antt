@@ -6,10 +6,10 @@ use Rattle.serving.proofs.state.ended.Statement.{statement}
 use Rattle.serving.proofs.state.ended.Tie as tie
 
 returns : tie.Need-returns
-returns c = search (needs, ended-worse, ended-same)
+returns c = search (needs, ended-worse)
 
 returns-2 : tie.Need-returns-2
-returns-2 c = search (needs, ended-worse, ended-same)
+returns-2 c = search (needs, ended-same)
 
 pub ended-spec : {M : Type 1} → statement M
 ended-spec = tie.close (tie.spec returns returns-2)

@@ -12,7 +12,7 @@ sub-u : tie.Need-sub-u
 sub-u c = search needs
 
 returns-2 : tie.Need-returns-2
-returns-2 c = search (needs, passed-none)
+returns-2 c = search needs
 
 pub passed-spec : {M : Type 1} → statement M
 passed-spec = tie.close (tie.spec returns sub-u returns-2)

@@ -15,16 +15,16 @@ same-length : tie.Need-same-length
 same-length c = search needs
 
 returns : tie.Need-returns
-returns c = search (needs, close-more, close-small, close-full, close-answers)
+returns c = search (needs, close-answers)
 
 returns-2 : tie.Need-returns-2
-returns-2 c = search (needs, close-more, close-small, close-full, close-answers)
+returns-2 c = search (needs, close-full)
 
 returns-3 : tie.Need-returns-3
-returns-3 c = search (needs, close-more, close-small, close-full, close-answers)
+returns-3 c = search (needs, close-small)
 
 returns-4 : tie.Need-returns-4
-returns-4 c = search (needs, close-more, close-small, close-full, close-answers)
+returns-4 c = search (needs, close-more)
 
 pub close-spec : {M : Type 1} → statement M
 close-spec =

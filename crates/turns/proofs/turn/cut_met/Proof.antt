@@ -12,10 +12,10 @@ cast-if1 : tie.Need-cast-if1
 cast-if1 c = search needs
 
 returns : tie.Need-returns
-returns c = search (needs, cut-long, cut-more)
+returns c = search (needs, cut-long)
 
 returns-2 : tie.Need-returns-2
-returns-2 c = search (needs, cut-long, cut-more)
+returns-2 c = search (needs, cut-more)
 
 pub cut-met-spec : {M : Type 1} → statement M
 cut-met-spec = tie.close (tie.spec u16-at-requires cast-if1 returns returns-2)
