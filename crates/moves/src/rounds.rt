@@ -37,15 +37,15 @@ pub fn advance_round(
     requires { ⌜ (r .0 ≤ roundMax) × (length (now votes) ≡ votesLength) × (length (now timeouts) ≡ timeoutsLength) × (at + advanceMost ≤ length (now out)) ⌝ }
     ensures { λ n. ⌜ Did advanceMost (advanced (whole core (now (votes .entry)) (now (timeouts .entry))) (r .0)) (now (out .entry)) at (n .core) (now (votes .exit)) (now (timeouts .exit)) (now (out .exit)) (n .at) ⌝ }
 {
-    if r.0 < core.round.0 {
-        return Moved { core, at };
-    }
-    let next = Round(r.0 + 1);
-    cleanup_votes(votes, next);
-    cleanup_timeouts(timeouts, next);
-    let end = put_timer_reset(out, at);
     let mut n = core;
-    n.round = next;
+    let mut end = at;
+    if core.round.0 <= r.0 {
+        let next = Round(r.0 + 1);
+        cleanup_votes(votes, next);
+        cleanup_timeouts(timeouts, next);
+        end = put_timer_reset(out, at);
+        n.round = next;
+    }
     Moved { core: n, at: end }
 }
 

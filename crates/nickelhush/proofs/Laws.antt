@@ -1,7 +1,7 @@
 -- Laws of the host's memory: one for each way out of the code, and what joins a step to `hosted`. Assumes nothing.
 use Prim.Native.Nat.{ℕ, zero, suc, _≤_, _<_}
 use native.Mathlib.Nat.{not-suc-le-zero, le-of-suc-le-suc}
-use mathlib.Core.Bool.{Bool, true, false, cond, true≢false}
+use mathlib.Core.Bool.{Bool, true, false, not, cond, true≢false}
 use mathlib.Core.List.{List, [], _∷_}
 use mathlib.Core.Path.{_≡_, refl, sym, _∙_, ap}
 use native.Mathlib.Omega.{arith}
@@ -19,8 +19,10 @@ use Rattle.moves.specs.declared.state.Core.{Core}
 use Rattle.replica.specs.declared.started.Seat.{Seat}
 use Rattle.replica.specs.declared.stages.Stepped.{Stepped}
 use Rattle.replica.specs.Started.{slotsMax, roomFor, roomy}
+use Rattle.replica.specs.Stages.{isBad}
 use Rattle.replica.specs.Step.{World, Left, world, stepped, laid, leftBy, started, onStart, onOther, onKind}
-use Rattle.nickelhush.specs.Memory.{seatLength, coreLength, fit, seatOf, coreOf, seatNumbers, coreNumbers, Lent, lent, worldOf, packed, writtenMost, handed, handedBy, unfitAnswer, hosted, takenOf, sizes, sizeOf, roomOf}
+use Rattle.replica.proofs.Theorems.{bad-record}
+use Rattle.nickelhush.specs.Memory.{seatLength, coreLength, fit, ready, seatOf, coreOf, seatNumbers, coreNumbers, Lent, lent, worldOf, packed, writtenMost, handed, handedBy, unfitAnswer, hosted, takenOf, sizes, sizeOf, roomOf}
 
 -- ---- the lengths of the seat and the core
 
@@ -32,7 +34,7 @@ pub record Fit (seat core : ℕ) : Type 0 where
   pub seat-long : seat ≡ seatLength
   pub core-long : core ≡ coreLength
 
-pub fit-has : (seat core : ℕ) → fit seat core ≡ true → Fit seat core
+fit-has : (seat core : ℕ) → fit seat core ≡ true → Fit seat core
 unfolding fit
 fit-has seat core e = let a = both (eqb seat seatLength) _ e in record { seat-long = eqb-true _ _ (a .0); core-long = eqb-true _ _ (a .1) }
 
@@ -44,7 +46,30 @@ pub fit-none : (seat core : ℕ) → (seat ≡ seatLength → ⊥) → false ≡
 unfolding fit
 fit-none seat core a = rw (ne-eqb _ _ a)
 
--- an event's answer where the lengths are others
+-- ---- ready for a step
+
+module _ (seat core : ℕ) {f : Bool} (fits : f ≡ fit seat core) where
+  pub ready-unfit : (k : Kind) → f ≡ false → false ≡ ready seat core k
+  unfolding ready
+  ready-unfit k e = rw (← fits, e)
+
+  module _ {k j : Kind} (form : k ≡ j) {b : Bool} (is : b ≡ isBad k) (e : f ≡ true) where
+    pub ready-bad : b ≡ true → false ≡ ready seat core j
+    unfolding ready
+    ready-bad h = rw (← fits, e, ← form, ← is, h)
+
+    pub ready-formed : b ≡ false → true ≡ ready seat core j
+    unfolding ready
+    ready-formed h = rw (← fits, e, ← form, ← is, h)
+
+ready-fits : (seat core : ℕ) (k : Kind) → ready seat core k ≡ true → fit seat core ≡ true
+unfolding ready
+ready-fits seat core k e = both (fit seat core) _ e .0
+
+pub ready-has : (seat core : ℕ) (k : Kind) → ready seat core k ≡ true → Fit seat core
+ready-has seat core k e = fit-has seat core (ready-fits seat core k e)
+
+-- an event's answer where it is not
 pub refused-as : (xs : List ℕ) {k : Kind} {a x : ℕ} → k ≡ formOf xs → a ≡ unfitAnswer k → x ≡ packed a 0 → x ≡ packed (unfitAnswer (formOf xs)) 0
 refused-as xs k a x = rw (← k, ← a) x
 
@@ -94,6 +119,37 @@ written-small s w r out e l = by (roomy (length (w .table)) (length out)) refl
     by true h = let n = roomy-slots (length (w .table)) (length out) h in omega (arith, n, l)
     by false h = let z = e ∙ roomless-written w (length out) r out h in omega (arith, z)
 
+-- ---- what is read and written back
+
+seat-again : (ss : List ℕ) → length ss ≡ seatLength → seatNumbers (seatOf ss) ≡ ss
+seat-again [] e = absurd (omega (arith, e))
+seat-again (a ∷ []) e = absurd (omega (arith, e))
+seat-again (a ∷ b ∷ []) e = refl
+seat-again (a ∷ b ∷ c ∷ ss) e = absurd (omega (arith, e))
+
+core-again : (cs : List ℕ) → length cs ≡ coreLength → coreNumbers (coreOf cs) ≡ cs
+core-again [] e = absurd (omega (arith, e))
+core-again (a ∷ []) e = absurd (omega (arith, e))
+core-again (a ∷ b ∷ []) e = absurd (omega (arith, e))
+core-again (a ∷ b ∷ c ∷ []) e = absurd (omega (arith, e))
+core-again (a ∷ b ∷ c ∷ d ∷ []) e = absurd (omega (arith, e))
+core-again (a ∷ b ∷ c ∷ d ∷ f ∷ []) e = absurd (omega (arith, e))
+core-again (a ∷ b ∷ c ∷ d ∷ f ∷ g ∷ []) e = absurd (omega (arith, e))
+core-again (a ∷ b ∷ c ∷ d ∷ f ∷ g ∷ h ∷ []) e = absurd (omega (arith, e))
+core-again (a ∷ b ∷ c ∷ d ∷ f ∷ g ∷ h ∷ i ∷ []) e = absurd (omega (arith, e))
+core-again (a ∷ b ∷ c ∷ d ∷ f ∷ g ∷ h ∷ i ∷ j ∷ []) e = refl
+core-again (a ∷ b ∷ c ∷ d ∷ f ∷ g ∷ h ∷ i ∷ j ∷ k ∷ cs) e = absurd (omega (arith, e))
+
+bad-is : (k : Kind) → not (isBad k) ≡ false → k ≡ Kind.Bad
+bad-is Kind.Bad e = refl
+bad-is Kind.Start e = absurd (true≢false e)
+bad-is Kind.Propose e = absurd (true≢false e)
+bad-is Kind.Vote e = absurd (true≢false e)
+bad-is Kind.Timeout e = absurd (true≢false e)
+bad-is Kind.Tc e = absurd (true≢false e)
+bad-is Kind.Loopback e = absurd (true≢false e)
+bad-is Kind.Tick e = absurd (true≢false e)
+
 -- ---- a step is `hosted`
 
 module _ (ss cs ks vs ts : List ℕ) (ys : List Slot) (zs xs : List ℕ) where
@@ -105,16 +161,28 @@ module _ (ss cs ks vs ts : List ℕ) (ys : List Slot) (zs xs : List ℕ) where
     pub step-small : s .written ≤ roomFor (length ys) → s .written ≤ writtenMost
     step-small l = written-small s (worldOf (lent ss cs ks vs ts ys zs)) xs zs (ap (λ (x : Left). x .written) as-lent) l
 
-    pub host-left : {x : ℕ} {ss′ cs′ : List ℕ} → fit (length ss) (length cs) ≡ true
+    pub host-left : {x : ℕ} {ss′ cs′ : List ℕ} → ready (length ss) (length cs) (formOf xs) ≡ true
         → (x ≡ packed (s .answer) (s .written)) × (ss′ ≡ seatNumbers (s .seat)) × (cs′ ≡ coreNumbers (s .core))
         → handed x (lent ss′ cs′ ks′ vs′ ts′ ys′ zs′) ≡ hosted (lent ss cs ks vs ts ys zs) xs
     unfolding hosted handedBy
-    host-left f k = rw (f, k .0, k .1, k .2) (ap handedBy as-lent)
+    host-left f k = rw (ready-fits (length ss) (length cs) (formOf xs) f, k .0, k .1, k .2) (ap handedBy as-lent)
 
-  pub host-refused : {x : ℕ} → fit (length ss) (length cs) ≡ false → x ≡ packed (unfitAnswer (formOf xs)) 0
+  -- a record that has no form leaves the replica as it is, and that is what it is written back as
+  host-bad : fit (length ss) (length cs) ≡ true → formOf xs ≡ Kind.Bad
+      → handed (packed (unfitAnswer (formOf xs)) 0) (lent ss cs ks vs ts ys zs) ≡ hosted (lent ss cs ks vs ts ys zs) xs
+  unfolding hosted handedBy laid encAll
+  host-bad f b =
+      let long = fit-has (length ss) (length cs) f in
+      rw (f, b, bad-record (worldOf (lent ss cs ks vs ts ys zs)) (length zs) xs b, seat-again ss (long .seat-long), core-again cs (long .core-long))
+
+  pub host-refused : {x : ℕ} → ready (length ss) (length cs) (formOf xs) ≡ false → x ≡ packed (unfitAnswer (formOf xs)) 0
       → handed x (lent ss cs ks vs ts ys zs) ≡ hosted (lent ss cs ks vs ts ys zs) xs
-  unfolding hosted
-  host-refused f e = rw (f, e)
+  unfolding hosted ready
+  host-refused {x} h e = by (fit (length ss) (length cs)) refl
+    where
+      by : (f : Bool) → fit (length ss) (length cs) ≡ f → handed x (lent ss cs ks vs ts ys zs) ≡ hosted (lent ss cs ks vs ts ys zs) xs
+      by true f = rw e (host-bad f (bad-is (formOf xs) (rw f at h)))
+      by false f = rw (f, e)
 
 -- ---- the other exports
 

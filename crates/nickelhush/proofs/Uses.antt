@@ -35,9 +35,9 @@ use Rattle.replica.specs.Step.{leftBy, laid, world}
 use Rattle.replica.proofs.Row.{seat, core, stepped, seat-makes, core-makes, stepped-makes}
 use Rattle.replica.proofs.step.step as step-fn
 use Rattle.replica.proofs.step.step.Symbol.{name as #replica·step·step}
-use Rattle.nickelhush.specs.Memory.{seatLength, coreLength, fit, seatOf, coreOf, seatNumbers, coreNumbers, packed, writtenMost, unfitAnswer}
-use Rattle.nickelhush.proofs.memory.is_fit as is-fit-fn
-use Rattle.nickelhush.proofs.memory.is_fit.Symbol.{name as #nickelhush·memory·is-fit}
+use Rattle.nickelhush.specs.Memory.{seatLength, coreLength, ready, seatOf, coreOf, seatNumbers, coreNumbers, packed, writtenMost, unfitAnswer}
+use Rattle.nickelhush.proofs.memory.is_ready as is-ready-fn
+use Rattle.nickelhush.proofs.memory.is_ready.Symbol.{name as #nickelhush·memory·is-ready}
 use Rattle.nickelhush.proofs.memory.seat_in as seat-in-fn
 use Rattle.nickelhush.proofs.memory.seat_in.Symbol.{name as #nickelhush·memory·seat-in}
 use Rattle.nickelhush.proofs.memory.core_in as core-in-fn
@@ -48,8 +48,8 @@ use Rattle.nickelhush.proofs.memory.refuse as refuse-fn
 use Rattle.nickelhush.proofs.memory.refuse.Symbol.{name as #nickelhush·memory·refuse}
 
 module _ {M : Type 1} (𝓤 : URA M) (H : Heap 𝓤) (A : Atoms 𝓤) (mem : Memory → SProp 𝓤) (run : Routine → Fun 𝓤) where
-  abbrev pub IsFitMet : Contract 𝓤
-  IsFitMet = tripleOf 𝓤 H A is-fit-fn.signature (is-fit-fn.spec 𝓤 H A mem run)
+  abbrev pub IsReadyMet : Contract 𝓤
+  IsReadyMet = tripleOf 𝓤 H A is-ready-fn.signature (is-ready-fn.spec 𝓤 H A mem run)
 
   abbrev pub SeatInMet : Contract 𝓤
   SeatInMet = tripleOf 𝓤 H A seat-in-fn.signature (seat-in-fn.spec 𝓤 H A mem run)
@@ -70,25 +70,26 @@ module _ {M : Type 1} (𝓤 : URA M) (H : Heap 𝓤) (A : Atoms 𝓤) (mem : Mem
     fm : FmC 𝓤 H (W .laws) (𝓣 .C)
     fm = fmOf 𝓤 H (W .laws) 𝓣
 
-    pub is-fit-use : Triple 𝓤 (𝓣 .C #nickelhush·memory·is-fit) IsFitMet
+    pub is-ready-use : Triple 𝓤 (𝓣 .C #nickelhush·memory·is-ready) IsReadyMet
         → (b₁ o₁ m₁ : ℕ) (ss : List ℕ) {e₁ : Item 𝓤} → AsShr 𝓤 H A u16 b₁ o₁ m₁ ss e₁
         → (b₂ o₂ m₂ : ℕ) (cs : List ℕ) {e₂ : Item 𝓤} → AsShr 𝓤 H A u64 b₂ o₂ m₂ cs e₂
-        → Gives 𝓤 H A (𝓣 .C) #nickelhush·memory·is-fit (sliceVal (b₁, o₁) m₁ ∷ sliceVal (b₂, o₂) m₂ ∷ []) (e₁ ⊛ e₂)
-        (λ z (x : Bool × (Unit {0} × (Unit {0} × Nones 0))). (x .0 ≡ fit (length ss) (length cs)) × ((Unit {0} × Unit {0}) × Is bool (x .0) (z ∷ [])))
-        (λ x. e₁ ⊛ e₂)
-    is-fit-use known b₁ o₁ m₁ ss L₁ b₂ o₂ m₂ cs L₂ =
-        use-all 𝓤 H A W fm #nickelhush·memory·is-fit (sliceVal (b₁, o₁) m₁ ∷ sliceVal (b₂, o₂) m₂ ∷ [])
+        → (b₃ o₃ m₃ : ℕ) (xs : List ℕ) {e₃ : Item 𝓤} → AsShr 𝓤 H A u8 b₃ o₃ m₃ xs e₃
+        → Gives 𝓤 H A (𝓣 .C) #nickelhush·memory·is-ready (sliceVal (b₁, o₁) m₁ ∷ sliceVal (b₂, o₂) m₂ ∷ sliceVal (b₃, o₃) m₃ ∷ []) (e₁ ⊛ (e₂ ⊛ e₃))
+        (λ z (x : Bool × (Unit {0} × (Unit {0} × (Unit {0} × Nones 0)))). (x .0 ≡ ready (length ss) (length cs) (formOf xs)) × ((Unit {0} × (Unit {0} × Unit {0})) × Is bool (x .0) (z ∷ [])))
+        (λ x. e₁ ⊛ (e₂ ⊛ e₃))
+    is-ready-use known b₁ o₁ m₁ ss L₁ b₂ o₂ m₂ cs L₂ b₃ o₃ m₃ xs L₃ =
+        use-all 𝓤 H A W fm #nickelhush·memory·is-ready (sliceVal (b₁, o₁) m₁ ∷ sliceVal (b₂, o₂) m₂ ∷ sliceVal (b₃, o₃) m₃ ∷ [])
         [] tt tt tt tt bool (emp 𝓤) (id⊢ 𝓤 (emp 𝓤))
-        (and-loan 𝓤 H A W L₁ (one-loan 𝓤 H A W L₂ 0 (owns [] tt tt)
-        (owns-make 𝓤 H A [] (Ises []) tt tt tt tt)))
-        (λ r _. r ≡ fit (length ss) (length cs))
+        (and-loan 𝓤 H A W L₁ (and-loan 𝓤 H A W L₂ (one-loan 𝓤 H A W L₃ 0 (owns [] tt tt)
+        (owns-make 𝓤 H A [] (Ises []) tt tt tt tt))))
+        (λ r _. r ≡ ready (length ss) (length cs) (formOf xs))
         (λ p. known (
           (
-            (L₁ .lft (p .0), (L₂ .lft (p .1), tt)),
-            (L₁ .share (p .0), (L₂ .share (p .1), tt)),
+            (L₁ .lft (p .0), (L₂ .lft (p .1 .0), (L₃ .lft (p .1 .1), tt))),
+            (L₁ .share (p .0), (L₂ .share (p .1 .0), (L₃ .share (p .1 .1), tt))),
             tt,
-            (at-name u16 b₁ o₁ (L₁ .name (p .0)) ss, (at-name u64 b₂ o₂ (L₂ .name (p .1)) cs, tt)),
-            (sliceVal (b₁, o₁) m₁ ∷ [], (sliceVal (b₂, o₂) m₂ ∷ [], tt)),
+            (at-name u16 b₁ o₁ (L₁ .name (p .0)) ss, (at-name u64 b₂ o₂ (L₂ .name (p .1 .0)) cs, (at-name u8 b₃ o₃ (L₃ .name (p .1 .1)) xs, tt))),
+            (sliceVal (b₁, o₁) m₁ ∷ [], (sliceVal (b₂, o₂) m₂ ∷ [], (sliceVal (b₃, o₃) m₃ ∷ [], tt))),
           ),
           tt,
         ))

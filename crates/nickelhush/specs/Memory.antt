@@ -1,5 +1,6 @@
 -- The replica's record as a host lends it: lists of numbers, and a result as one number.
 --     seatLength, coreLength, fit     the lengths that the seat and the core must have
+--     ready seat core kind            that, and a record that has a form
 --     seatOf, coreOf                  what they hold
 --     seatNumbers, coreNumbers        the numbers of a seat and a core
 --     Lent, worldOf                   all that is lent but the record; the world that it holds
@@ -8,7 +9,7 @@
 --     takenOf                         the bytes of the record at the front of a trace
 --     sizes, sizeOf, roomOf           how much to lend
 use Prim.Native.Nat.{ℕ, _+_, _*_}
-use mathlib.Core.Bool.{Bool, false, cond}
+use mathlib.Core.Bool.{Bool, false, not, cond}
 use mathlib.Core.List.{List, [], _∷_}
 use lib.Dec.{eqb, ltb}
 use lib.ListN.{length, getD}
@@ -23,6 +24,7 @@ use Rattle.synchronizer.specs.declared.table.Slot.{Slot}
 use Rattle.moves.specs.declared.state.Core.{Core}
 use Rattle.replica.specs.declared.started.Seat.{Seat}
 use Rattle.replica.specs.Started.{slotsMax, roomFor}
+use Rattle.replica.specs.Stages.{isBad}
 use Rattle.replica.specs.Step.{World, Left, world, stepped, laid}
 
 -- ---- the seat and the core
@@ -35,6 +37,9 @@ coreLength = 9
 
 unfoldable pub fit : ℕ → ℕ → Bool
 fit seat core = cond (eqb seat seatLength) (eqb core coreLength) false
+
+unfoldable pub ready : ℕ → ℕ → Kind → Bool
+ready seat core kind = cond (fit seat core) (not (isBad kind)) false
 
 -- the member count, the own place
 abbrev pub seatOf : List ℕ → Seat

@@ -5,7 +5,7 @@ use crate::memory::SEAT_LENGTH;
 use crate::memory::clear16;
 use crate::memory::clear32;
 use crate::memory::core_in;
-use crate::memory::is_fit;
+use crate::memory::is_ready;
 use crate::memory::keep;
 use crate::memory::number_at;
 use crate::memory::refuse;
@@ -45,7 +45,7 @@ pub extern "C" fn nickelhush_step(
 ) -> u32
     ensures { λ r. ⌜ handed r (lent (now (seat .exit)) (now (core .exit)) (now (stakes .exit)) (now (votes .exit)) (now (timeouts .exit)) (now (table .exit)) (now (out .exit))) ≡ hosted (lent (now (seat .entry)) (now (core .entry)) (now (stakes .entry)) (now (votes .entry)) (now (timeouts .entry)) (now (table .entry)) (now (out .entry))) (now (input .entry)) ⌝ }
 {
-    if is_fit(seat, core) {
+    if is_ready(seat, core, input) {
         let s = seat_in(seat);
         let c = core_in(core);
         let r = step(stakes, votes, timeouts, table, out, input, s, c);

@@ -10,6 +10,7 @@ use certificates::numbers::Round;
 use certificates::numbers::Signers;
 use moves::state::Core;
 use replica::stages::Stepped;
+use replica::stages::is_bad;
 use replica::started::Seat;
 use trace::events::Kind;
 use trace::events::form_of;
@@ -17,7 +18,7 @@ ghost use mathlib.Core.Path.{_≡_};
 ghost use Prim.Native.Nat.{_≤_};
 ghost use lib.ListN.{length, replicate, getD};
 ghost use Rattle.trace.specs.Form.{formOf};
-ghost use Rattle.nickelhush.specs.Memory.{seatLength, coreLength, fit, seatOf, coreOf, seatNumbers, coreNumbers, packed, writtenMost, unfitAnswer};
+ghost use Rattle.nickelhush.specs.Memory.{seatLength, coreLength, fit, ready, seatOf, coreOf, seatNumbers, coreNumbers, packed, writtenMost, unfitAnswer};
 
 // The numbers that hold the seat: the member count, the own place.
 pub const SEAT_LENGTH: usize = 2;
@@ -27,11 +28,24 @@ pub const SEAT_LENGTH: usize = 2;
 pub const CORE_LENGTH: usize = 9;
 
 // Whether the two have the lengths that they must have.
-pub(crate) fn is_fit(seat: &[u16], core: &[u64]) -> bool
+fn is_fit(seat: &[u16], core: &[u64]) -> bool
     ensures { λ r. ⌜ r ≡ fit (length (now (seat .entry))) (length (now (core .entry))) ⌝ }
 {
     if seat.len() == SEAT_LENGTH {
         return core.len() == CORE_LENGTH;
+    }
+    false
+}
+
+// That, and the record has a form. What has none is refused before the replica is read.
+pub(crate) fn is_ready(seat: &[u16], core: &[u64], input: &[u8]) -> bool
+    ensures { λ r. ⌜ r ≡ ready (length (now (seat .entry))) (length (now (core .entry))) (formOf (now (input .entry))) ⌝ }
+{
+    if is_fit(seat, core) {
+        if is_bad(form_of(input)) {
+            return false;
+        }
+        return true;
     }
     false
 }

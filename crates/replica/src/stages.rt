@@ -411,7 +411,8 @@ fn is_start(kind: Kind) -> bool
     }
 }
 
-fn is_bad(kind: Kind) -> bool
+// Whether a record had no form.
+pub fn is_bad(kind: Kind) -> bool
     ensures { λ r. ⌜ r ≡ isBad kind ⌝ }
 {
     match kind {

@@ -46,8 +46,6 @@ mod c {
             timeouts: *mut u64,
             timeouts_length: usize,
         );
-        pub fn nickelhush_answer(result: u32) -> u32;
-        pub fn nickelhush_written(result: u32) -> usize;
         pub fn nickelhush_record(trace: *const u8, length: usize) -> usize;
         pub fn nickelhush_round(core: *const u64, core_length: usize) -> u64;
         pub fn nickelhush_last_voted(core: *const u64, core_length: usize) -> u64;
@@ -66,6 +64,12 @@ pub struct Lent<'a> {
     pub timeouts: &'a mut [u64],
     pub table: &'a mut [Slot],
     pub out: &'a mut [u8],
+}
+
+/// The answer and the count in a result: what `nickelhush_answer` and `nickelhush_written` give, without a call.
+#[inline]
+fn parts(result: u32) -> (u16, usize) {
+    (result as u16, (result >> 16) as usize)
 }
 
 /// One event: the answer's number, and how many bytes of `out` were written.
@@ -92,7 +96,7 @@ pub fn step(lent: &mut Lent, record: &[u8]) -> (u16, usize) {
             record.as_ptr(),
             record.len(),
         );
-        (c::nickelhush_answer(result) as u16, c::nickelhush_written(result))
+        parts(result)
     }
 }
 
@@ -155,4 +159,22 @@ pub fn size(part: u32) -> usize {
 pub fn room(slots: usize) -> usize {
     // SAFETY: numbers only.
     unsafe { c::nickelhush_room(slots) }
+}
+
+#[cfg(test)]
+mod tests {
+    extern "C" {
+        fn nickelhush_answer(result: u32) -> u32;
+        fn nickelhush_written(result: u32) -> usize;
+    }
+
+    #[test]
+    fn parts_are_the_librarys() {
+        for result in (0..=u32::MAX).step_by(65_521) {
+            // SAFETY: numbers only.
+            let library = unsafe { (nickelhush_answer(result), nickelhush_written(result)) };
+            let (answer, written) = super::parts(result);
+            assert_eq!((u32::from(answer), written), library);
+        }
+    }
 }

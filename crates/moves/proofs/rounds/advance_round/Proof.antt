@@ -5,9 +5,6 @@ use Rattle.moves.proofs.MoveLaws.{advance-stays, advance-moves}
 use Rattle.moves.proofs.rounds.advance_round.Statement.{statement}
 use Rattle.moves.proofs.rounds.advance_round.Tie as tie
 
-returns : tie.Need-returns
-returns c = search (needs, advance-stays)
-
 add-t11 : tie.Need-add-t11
 add-t11 c = search needs
 
@@ -29,14 +26,16 @@ same-length-2 c = search needs
 same-length-3 : tie.Need-same-length-3
 same-length-3 c = search needs
 
+returns : tie.Need-returns
+returns c = search (needs, advance-moves)
+
 returns-2 : tie.Need-returns-2
-returns-2 c = search (needs, advance-moves)
+returns-2 c = search (needs, advance-stays)
 
 pub advance-round-spec : {M : Type 1} → statement M
 advance-round-spec =
     tie.close
     (tie.spec
-    returns
     add-t11
     cleanup-votes-requires
     cleanup-timeouts-requires
@@ -44,4 +43,5 @@ advance-round-spec =
     same-length
     same-length-2
     same-length-3
+    returns
     returns-2)

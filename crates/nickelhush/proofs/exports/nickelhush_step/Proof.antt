@@ -37,12 +37,13 @@ use Rattle.synchronizer.specs.declared.table.Slot.{Slot}
 use Rattle.synchronizer.proofs.Lent.{arg, sets, gets-in, held-all-at, frees-at, frees-room, passes, enters-arm, by-cases, at-end-all, at-name, entries, OwnShr, OwnMut, shr-as-shr, mut-as-shr, mut-as-mut, calls-held, calls-some}
 use Rattle.synchronizer.proofs.Row.{slot}
 use Rattle.replica.proofs.Row.{seat-typed, core-typed, stepped-typed}
+use Rattle.trace.specs.Form.{formOf}
 use Rattle.nickelhush.specs.Memory.{lent, handed, hosted}
-use Rattle.nickelhush.proofs.Laws.{fit-has, step-small, host-left, host-refused}
+use Rattle.nickelhush.proofs.Laws.{ready-has, step-small, host-left, host-refused}
 use Rattle.nickelhush.proofs.Uses as U
-use Rattle.nickelhush.proofs.memory.is_fit.Symbol as is-fit-def
-use Rattle.nickelhush.proofs.memory.is_fit.Symbol.{name as #nickelhush·memory·is-fit}
-use Rattle.nickelhush.proofs.memory.is_fit.Met as is-fit-thm
+use Rattle.nickelhush.proofs.memory.is_ready.Symbol as is-ready-def
+use Rattle.nickelhush.proofs.memory.is_ready.Symbol.{name as #nickelhush·memory·is-ready}
+use Rattle.nickelhush.proofs.memory.is_ready.Met as is-ready-thm
 use Rattle.nickelhush.proofs.memory.seat_in.Symbol as seat-in-def
 use Rattle.nickelhush.proofs.memory.seat_in.Symbol.{name as #nickelhush·memory·seat-in}
 use Rattle.nickelhush.proofs.memory.seat_in.Met as seat-in-thm
@@ -68,7 +69,7 @@ stayed = (stay-slice (0 ∷ []) tt (plain (λ _. u16)), (stay-slice (1 ∷ []) t
 
 -- what the callees are known to meet
 record Known {M : Type 1} (𝓤 : URA M) (H : Heap 𝓤) (A : Atoms 𝓤) (mem : Memory → SProp 𝓤) (run : Routine → Fun 𝓤) (𝓣 : Tables 𝓤 H) : Type 1 where
-  is-fit : Triple 𝓤 (𝓣 .C #nickelhush·memory·is-fit) (U.IsFitMet 𝓤 H A mem run)
+  is-ready : Triple 𝓤 (𝓣 .C #nickelhush·memory·is-ready) (U.IsReadyMet 𝓤 H A mem run)
   seat-in : Triple 𝓤 (𝓣 .C #nickelhush·memory·seat-in) (U.SeatInMet 𝓤 H A mem run)
   core-in : Triple 𝓤 (𝓣 .C #nickelhush·memory·core-in) (U.CoreInMet 𝓤 H A mem run)
   step : Triple 𝓤 (𝓣 .C #replica·step·step) (U.StepMet 𝓤 H A mem run)
@@ -129,18 +130,18 @@ module _ {M : Type 1} (𝓤 : URA M) (H : Heap 𝓤) (A : Atoms 𝓤) (W : Given
       sets ! 40 refl (agg ! (and-then ! (arg ! 42 refl) (and-then ! (load ! (from ! (fld ! refl (stop !))) (look-in ! 66 (sub ! 1 refl (whole !)))) (no-more !)))) (tt, (tt, (record { fits = room₁ .0 }, tt))) $
       sets ! 38 refl (addr ! (from ! (fld ! refl (hop ! (look-in ! 64 (sub ! 0 refl (whole !))) (stop !))))) (tt, tt) $
       sets ! 36 refl (agg ! (and-then ! (arg ! 38 refl) (and-then ! (load ! (from ! (fld ! refl (stop !))) (look-in ! 64 (sub ! 1 refl (whole !)))) (no-more !)))) (tt, (tt, (record { fits = room₂ .0 }, tt))) $
-      -- `is_fit`, into _12
-      calls-some ! fm (70 ∷ 70 ∷ []) (U.is-fit-use 𝓤 H A mem run W 𝓣 (known .is-fit) b₁ o₁ (length ss) ss (mut-as-shr 𝓤 H A u16 b₁ o₁ (length ss) ss W (named 0) κ₁ q₁ γ₁ refl) b₂ o₂ (length cs) cs (mut-as-shr 𝓤 H A u64 b₂ o₂ (length cs) cs W (named 1) κ₂ q₂ γ₂ refl)) refl (and-then ! (arg ! 40 refl) (and-then ! (arg ! 36 refl) (no-more !))) (λ z₁ x₁ f₁. gets-in ! 44 refl (bool-lawful 𝓤 H A W .typed (x₁ .0) _ (f₁ .1 .1) .0) $
+      -- `is_ready`, into _12
+      calls-some ! fm (70 ∷ 70 ∷ 75 ∷ []) (U.is-ready-use 𝓤 H A mem run W 𝓣 (known .is-ready) b₁ o₁ (length ss) ss (mut-as-shr 𝓤 H A u16 b₁ o₁ (length ss) ss W (named 0) κ₁ q₁ γ₁ refl) b₂ o₂ (length cs) cs (mut-as-shr 𝓤 H A u64 b₂ o₂ (length cs) cs W (named 1) κ₂ q₂ γ₂ refl) b₈ o₈ (length xs) xs (shr-as-shr 𝓤 H A u8 b₈ o₈ (length xs) xs W (named 7) κ₈ q₈ γ₈)) refl (and-then ! (arg ! 40 refl) (and-then ! (arg ! 36 refl) (and-then ! (arg ! 52 refl) (no-more !)))) (λ z₁ x₁ f₁. gets-in ! 44 refl (bool-lawful 𝓤 H A W .typed (x₁ .0) _ (f₁ .1 .1) .0) $
       by-cases (x₁ .0)
       (λ t₁. rewrite ! 44 (λ (u : Val). ‵ (fat fullShare tyBool l₁₂ 0 u)) (ap only (f₁ .1 .1) ∙ ap vbool t₁) refl $ enters-arm ! (arg ! 44 refl) $
       sets ! 34 refl (addr ! (from ! (fld ! refl (hop ! (look-in ! 66 (sub ! 0 refl (whole !))) (stop !))))) (tt, tt) $
       sets ! 32 refl (agg ! (and-then ! (arg ! 34 refl) (and-then ! (load ! (from ! (fld ! refl (stop !))) (look-in ! 66 (sub ! 1 refl (whole !)))) (no-more !)))) (tt, (tt, (record { fits = room₁ .0 }, tt))) $
       -- `seat_in`, into _9
-      calls-held ! fm 70 (U.seat-in-use 𝓤 H A mem run W 𝓣 (known .seat-in) b₁ o₁ (length ss) ss (mut-as-shr 𝓤 H A u16 b₁ o₁ (length ss) ss W (named 0) κ₁ q₁ γ₁ refl) (fit-has (length ss) (length cs) (sym (f₁ .0) ∙ t₁) .seat-long)) refl (and-then ! (arg ! 32 refl) (no-more !)) (λ z₂ x₂ f₂. gets-in ! 50 refl (seat-typed 𝓤 H A W (x₂ .0) _ (f₂ .1 .1)) $
+      calls-held ! fm 70 (U.seat-in-use 𝓤 H A mem run W 𝓣 (known .seat-in) b₁ o₁ (length ss) ss (mut-as-shr 𝓤 H A u16 b₁ o₁ (length ss) ss W (named 0) κ₁ q₁ γ₁ refl) (ready-has (length ss) (length cs) (formOf xs) (sym (f₁ .0) ∙ t₁) .seat-long)) refl (and-then ! (arg ! 32 refl) (no-more !)) (λ z₂ x₂ f₂. gets-in ! 50 refl (seat-typed 𝓤 H A W (x₂ .0) _ (f₂ .1 .1)) $
       sets ! 30 refl (addr ! (from ! (fld ! refl (hop ! (look-in ! 64 (sub ! 0 refl (whole !))) (stop !))))) (tt, tt) $
       sets ! 28 refl (agg ! (and-then ! (arg ! 30 refl) (and-then ! (load ! (from ! (fld ! refl (stop !))) (look-in ! 64 (sub ! 1 refl (whole !)))) (no-more !)))) (tt, (tt, (record { fits = room₂ .0 }, tt))) $
       -- `core_in`, into _10
-      calls-held ! fm 71 (U.core-in-use 𝓤 H A mem run W 𝓣 (known .core-in) b₂ o₂ (length cs) cs (mut-as-shr 𝓤 H A u64 b₂ o₂ (length cs) cs W (named 1) κ₂ q₂ γ₂ refl) (fit-has (length ss) (length cs) (sym (f₁ .0) ∙ t₁) .core-long)) refl (and-then ! (arg ! 28 refl) (no-more !)) (λ z₃ x₃ f₃. gets-in ! 48 refl (core-typed 𝓤 H A W (x₃ .0) _ (f₃ .1 .1)) $
+      calls-held ! fm 71 (U.core-in-use 𝓤 H A mem run W 𝓣 (known .core-in) b₂ o₂ (length cs) cs (mut-as-shr 𝓤 H A u64 b₂ o₂ (length cs) cs W (named 1) κ₂ q₂ γ₂ refl) (ready-has (length ss) (length cs) (formOf xs) (sym (f₁ .0) ∙ t₁) .core-long)) refl (and-then ! (arg ! 28 refl) (no-more !)) (λ z₃ x₃ f₃. gets-in ! 48 refl (core-typed 𝓤 H A W (x₃ .0) _ (f₃ .1 .1)) $
       sets ! 26 refl (addr ! (from ! (fld ! refl (hop ! (look-in ! 62 (sub ! 0 refl (whole !))) (stop !))))) (tt, tt) $
       sets ! 24 refl (agg ! (and-then ! (arg ! 26 refl) (and-then ! (load ! (from ! (fld ! refl (stop !))) (look-in ! 62 (sub ! 1 refl (whole !)))) (no-more !)))) (tt, (tt, (record { fits = room₃ .0 }, tt))) $
       sets ! 22 refl (addr ! (from ! (fld ! refl (hop ! (look-in ! 60 (sub ! 0 refl (whole !))) (stop !))))) (tt, tt) $
@@ -158,7 +159,7 @@ module _ {M : Type 1} (𝓤 : URA M) (H : Heap 𝓤) (A : Atoms 𝓤) (W : Given
       sets ! 2 refl (addr ! (from ! (fld ! refl (hop ! (look-in ! 64 (sub ! 0 refl (whole !))) (stop !))))) (tt, tt) $
       sets ! 0 refl (agg ! (and-then ! (arg ! 2 refl) (and-then ! (load ! (from ! (fld ! refl (stop !))) (look-in ! 64 (sub ! 1 refl (whole !)))) (no-more !)))) (tt, (tt, (record { fits = room₂ .0 }, tt))) $
       -- `keep`, into _0
-      calls-some ! fm (70 ∷ 70 ∷ []) (U.keep-use 𝓤 H A mem run W 𝓣 (known .keep) b₁ o₁ (length ss) ss (mut-as-mut 𝓤 H A u16 b₁ o₁ (length ss) ss W (named 0) κ₁ q₁ γ₁ refl room₁) b₂ o₂ (length cs) cs (mut-as-mut 𝓤 H A u64 b₂ o₂ (length cs) cs W (named 1) κ₂ q₂ γ₂ refl room₂) (x₄ .0) z₄ (f₄ .1 .1) (fit-has (length ss) (length cs) (sym (f₁ .0) ∙ t₁) .seat-long, fit-has (length ss) (length cs) (sym (f₁ .0) ∙ t₁) .core-long, step-small ss cs ks vs ts ys zs xs (f₂ .0) (f₃ .0) (x₄ .0) (x₄ .1 .0) (x₄ .1 .1 .0) (x₄ .1 .1 .1 .0) (x₄ .1 .1 .1 .1 .0) (x₄ .1 .1 .1 .1 .1 .0) (f₄ .0 .0) (f₄ .0 .1))) refl (and-then ! (arg ! 4 refl) (and-then ! (arg ! 0 refl) (and-then ! (arg ! 46 refl) (no-more !)))) (λ z₅ x₅ f₅. gets-in ! 68 refl (uint-lawful 𝓤 H A W w32 .typed (x₅ .0) _ (f₅ .1 .1) .0) $
+      calls-some ! fm (70 ∷ 70 ∷ []) (U.keep-use 𝓤 H A mem run W 𝓣 (known .keep) b₁ o₁ (length ss) ss (mut-as-mut 𝓤 H A u16 b₁ o₁ (length ss) ss W (named 0) κ₁ q₁ γ₁ refl room₁) b₂ o₂ (length cs) cs (mut-as-mut 𝓤 H A u64 b₂ o₂ (length cs) cs W (named 1) κ₂ q₂ γ₂ refl room₂) (x₄ .0) z₄ (f₄ .1 .1) (ready-has (length ss) (length cs) (formOf xs) (sym (f₁ .0) ∙ t₁) .seat-long, ready-has (length ss) (length cs) (formOf xs) (sym (f₁ .0) ∙ t₁) .core-long, step-small ss cs ks vs ts ys zs xs (f₂ .0) (f₃ .0) (x₄ .0) (x₄ .1 .0) (x₄ .1 .1 .0) (x₄ .1 .1 .1 .0) (x₄ .1 .1 .1 .1 .0) (x₄ .1 .1 .1 .1 .1 .0) (f₄ .0 .0) (f₄ .0 .1))) refl (and-then ! (arg ! 4 refl) (and-then ! (arg ! 0 refl) (and-then ! (arg ! 46 refl) (no-more !)))) (λ z₅ x₅ f₅. gets-in ! 68 refl (uint-lawful 𝓤 H A W w32 .typed (x₅ .0) _ (f₅ .1 .1) .0) $
       returns-within ! Post refl (look ! 68 refl) $ frees-at ! 68 refl refl $ frees-at ! 66 refl refl $ frees-at ! 64 refl refl $ frees-at ! 62 refl refl $ frees-at ! 60 refl refl $ frees-at ! 58 refl refl $ frees-at ! 56 refl refl $ frees-at ! 54 refl refl $ frees-at ! 52 refl refl $ frees-at ! 50 refl refl $ frees-at ! 48 refl refl $ frees-at ! 46 refl refl $ frees-at ! 44 refl refl $ frees-at ! 42 refl refl $ frees-at ! 40 refl refl $ frees-at ! 38 refl refl $ frees-at ! 36 refl refl $ frees-at ! 34 refl refl $ frees-at ! 32 refl refl $ frees-at ! 30 refl refl $ frees-at ! 28 refl refl $ frees-at ! 26 refl refl $ frees-at ! 24 refl refl $ frees-at ! 22 refl refl $ frees-at ! 20 refl refl $ frees-at ! 18 refl refl $ frees-at ! 16 refl refl $ frees-at ! 14 refl refl $ frees-at ! 12 refl refl $ frees-at ! 10 refl refl $ frees-at ! 8 refl refl $ frees-at ! 6 refl refl $ frees-at ! 4 refl refl $ frees-at ! 2 refl refl $ frees-at ! 0 refl refl $ free0 ! $
       by ! (exits (x₅ .0) z₅ (f₅ .1 .1) (x₅ .1 .0) (x₅ .1 .1 .0) (x₄ .1 .0) (x₄ .1 .1 .0) (x₄ .1 .1 .1 .0) (x₄ .1 .1 .1 .1 .0) (x₄ .1 .1 .1 .1 .1 .0) (host-left ss cs ks vs ts ys zs xs (f₂ .0) (f₃ .0) (x₄ .0) (x₄ .1 .0) (x₄ .1 .1 .0) (x₄ .1 .1 .1 .0) (x₄ .1 .1 .1 .1 .0) (x₄ .1 .1 .1 .1 .1 .0) (f₄ .0 .0) (sym (f₁ .0) ∙ t₁) (f₅ .0)) (f₅ .1 .0 .0) (f₅ .1 .0 .1) (f₄ .1 .0 .0) (f₄ .1 .0 .1 .0) (f₄ .1 .0 .1 .1 .0) (f₄ .1 .0 .1 .1 .1 .0) (f₄ .1 .0 .1 .1 .1 .1 .0)))))))
       (λ t₁. rewrite ! 44 (λ (u : Val). ‵ (fat fullShare tyBool l₁₂ 0 u)) (ap only (f₁ .1 .1) ∙ ap vbool t₁) refl $ passes ! (arg ! 44 refl) $
@@ -182,7 +183,7 @@ nickelhush-step-spec 𝓤 H 𝓜 𝓖 𝓡 =
     entered 𝓤 H (tripleOf 𝓤 H (𝓖 .A) here.signature (here.spec 𝓤 H (𝓖 .A) (𝓜 .mem) (𝓡 .run)))
     (tables 𝓤 H 𝓜 𝓡 code.env .C) (tables 𝓤 H 𝓜 𝓡 code.env .Λ) #nickelhush·exports·nickelhush-step code.function (code.unfolded 𝓤 H 𝓜 𝓡)
     (nickelhush-step-meets 𝓤 H (𝓖 .A) (givenOf 𝓤 H 𝓜 𝓖) (𝓜 .mem) (𝓡 .run) (tablesOf 𝓤 H 𝓜 (tables 𝓤 H 𝓜 𝓡 code.env)) record {
-      is-fit = cited 𝓤 H (U.IsFitMet 𝓤 H (𝓖 .A) (𝓜 .mem) (𝓡 .run)) 𝓜 𝓡 code.env #nickelhush·memory·is-fit is-fit-def.routine code.calls-nickelhush·memory·is-fit (is-fit-thm.met 𝓤 H 𝓜 𝓖 𝓡);
+      is-ready = cited 𝓤 H (U.IsReadyMet 𝓤 H (𝓖 .A) (𝓜 .mem) (𝓡 .run)) 𝓜 𝓡 code.env #nickelhush·memory·is-ready is-ready-def.routine code.calls-nickelhush·memory·is-ready (is-ready-thm.met 𝓤 H 𝓜 𝓖 𝓡);
       seat-in = cited 𝓤 H (U.SeatInMet 𝓤 H (𝓖 .A) (𝓜 .mem) (𝓡 .run)) 𝓜 𝓡 code.env #nickelhush·memory·seat-in seat-in-def.routine code.calls-nickelhush·memory·seat-in (seat-in-thm.met 𝓤 H 𝓜 𝓖 𝓡);
       core-in = cited 𝓤 H (U.CoreInMet 𝓤 H (𝓖 .A) (𝓜 .mem) (𝓡 .run)) 𝓜 𝓡 code.env #nickelhush·memory·core-in core-in-def.routine code.calls-nickelhush·memory·core-in (core-in-thm.met 𝓤 H 𝓜 𝓖 𝓡);
       step = cited 𝓤 H (U.StepMet 𝓤 H (𝓖 .A) (𝓜 .mem) (𝓡 .run)) 𝓜 𝓡 code.env #replica·step·step step-def.routine code.calls-replica·step·step (step-thm.met 𝓤 H 𝓜 𝓖 𝓡);
