@@ -18,3 +18,4 @@ pub mod Example
 pub mod Readings
 pub mod Laws
 pub mod Refusals
+pub mod Late
