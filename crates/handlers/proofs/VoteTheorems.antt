@@ -3,10 +3,11 @@
 --     voting-is-past, voting-is-not, voting-is       `voting` by its tests
 --     voted-is                                       a vote: VOTE is written, and then it may be counted
 --     vote-keeps, own-vote-keeps, voted-keeps        what they leave as it was
+--     Votes, voting-votes                            the numbers that the vote for a block may be answered with
 --     vote-early                                     a VOTE that is not answered 0 leaves the state, and writes nothing
 use Prim.Native.Nat.{ℕ, suc, _+_, _≤_, _<_}
 use mathlib.Core.Bool.{Bool, true, false, cond}
-use mathlib.Core.List.{List}
+use mathlib.Core.List.{List, [], _∷_}
 use mathlib.Core.Logic.{_⊎_, inl, inr}
 use mathlib.Core.Path.{_≡_, refl}
 use native.Mathlib.Omega.{arith}
@@ -17,7 +18,9 @@ use Rattle.certificates.specs.declared.numbers.Hash.{Hash}
 use Rattle.certificates.specs.Config.{stakeOf, quorumOf}
 use Rattle.certificates.specs.Leader.{leaderOf}
 use Rattle.certificates.specs.Messages.{authorCheck}
-use Rattle.certificates.specs.Error.{authorNumber}
+use Rattle.certificates.specs.declared.messages.Authored.the-variants as authored
+use Rattle.certificates.specs.Signers.{member}
+use Rattle.certificates.specs.Error.{authorNumber, unknownAuthority, authorityReuse, talliesFull}
 use Rattle.trace.specs.declared.events.Vote.{Vote}
 use Rattle.trace.specs.declared.events.Block.{Block}
 use Rattle.outputs.specs.Records.{vote}
@@ -152,3 +155,56 @@ vote-early m own s v =
     from-checked (eqb n 0) n s (voteTallied m own need s (v .hash) (v .round .0) p stake)
     (rw (vote-tallied-is m own need s (v .hash) (v .round .0) p stake)
     (from-added m own s (v .hash) (v .round .0) (votesAfter (s .votes) (v .round .0) (v .hash) p stake need) (voteAdded (s .votes) (v .round .0) (v .hash) p stake need)))
+
+-- ---- what a vote for a block may answer
+
+abbrev pub Votes : ℕ → Type 0
+Votes n = member n (0 ∷ unknownAuthority ∷ authorityReuse ∷ talliesFull ∷ []) ≡ true
+
+votes-checked : (u : Bool) (n : ℕ) (s : State) (o : Outcome) → Votes n → Votes (o .answer) → Votes (cond u o (refused n s) .answer)
+votes-checked true n s o k h = h
+votes-checked false n s o k h = k
+
+module _ (m : List ℕ) (own : ℕ) where
+  pub tallied-votes : (need : ℕ) (s : State) (hash : Hash) (round p stake : ℕ) → Votes (voteTallied m own need s hash round p stake .answer)
+  unfolding member
+  tallied-votes need s hash round p stake =
+      rw (vote-tallied-is m own need s hash round p stake) (cases (votesAfter (s .votes) round hash p stake need) (voteAdded (s .votes) round hash p stake need))
+    where
+      cases : (v : List ℕ) (a : Added) → Votes (afterVote m own s hash round v a .answer)
+      cases v NoRoom = refl
+      cases v Used = refl
+      cases v More = refl
+      cases v (Full i signers) = refl
+
+  pub author-votes : Votes (authorNumber (authorCheck m own 1))
+  unfolding member authorCheck
+  author-votes = cases (eqb (stakeOf m own) 0)
+    where
+      cases : (u : Bool) → Votes (authorNumber (cond u (authored.UnknownAuthority record { 0 = own }) (authored.Valid record { 0 = stakeOf m own })))
+      cases true = refl
+      cases false = refl
+
+  own-votes : (b : Block) (s : State) → Votes (ownVote m own b s .answer)
+  unfolding ownVote
+  own-votes b s =
+      let n = authorNumber (authorCheck m own 1) in
+      votes-checked (eqb n 0) n s (voteTallied m own (quorumOf m) s (b .digest) (b .round .0) own (stakeOf m own)) author-votes
+      (tallied-votes (quorumOf m) s (b .digest) (b .round .0) own (stakeOf m own))
+
+  voted-votes : (b : Block) (s : State) → Votes (voted m own b s .answer)
+  unfolding voted member
+  voted-votes b s = cases (eqb (leaderOf m (b .round .0 + 1)) own)
+    where
+      cases : (u : Bool) → let t = withCore s (withVoted (s .core) (b .round .0)) in Votes (cond u (ownVote m own b t) (done 0 (quiet t)) .answer)
+      cases true = own-votes b (withCore s (withVoted (s .core) (b .round .0)))
+      cases false = refl
+
+  pub voting-votes : (b : Block) (s : State) → Votes (voting m own b s .answer)
+  unfolding voting member
+  voting-votes b s = cases (eqb (b .round .0) (s .core .round .0)) (mayVote (s .core) b)
+    where
+      cases : (u v : Bool) → Votes (cond u (cond v (voted m own b s) (done 0 (quiet s))) (done 0 (quiet s)) .answer)
+      cases true true = voted-votes b s
+      cases true false = refl
+      cases false v = refl

@@ -8,6 +8,7 @@ use native.Mathlib.Omega.{arith}
 use borrow.Author.Tests.{eq-eqb, ne-eqb, eqb-true, ltb-false, le-ltb, lt-ltb}
 use lib.Dec.{eqb, ltb, leb}
 use lib.ListN.{length, getD}
+use Rattle.certificates.specs.Error.{badRecord}
 use Rattle.certificates.specs.declared.config.Setup.{Setup}
 use Rattle.trace.specs.declared.events.Kind.{Kind}
 use Rattle.trace.specs.declared.record.Front.{Front}
@@ -21,7 +22,7 @@ use Rattle.replica.specs.declared.stages.Stepped.{Stepped}
 use Rattle.replica.specs.Started.{slotsMax, roomFor, roomy}
 use Rattle.replica.specs.Stages.{isBad}
 use Rattle.replica.specs.Step.{World, Left, world, stepped, laid, leftBy, started, onStart, onOther, onKind}
-use Rattle.replica.proofs.Theorems.{bad-record}
+use Rattle.replica.proofs.Theorems.{bad-record, refused-left}
 use Rattle.nickelhush.specs.Memory.{seatLength, coreLength, fit, ready, seatOf, coreOf, seatNumbers, coreNumbers, Lent, lent, worldOf, packed, writtenMost, handed, handedBy, unfitAnswer, hosted, takenOf, sizes, sizeOf, roomOf}
 
 -- ---- the lengths of the seat and the core
@@ -170,10 +171,11 @@ module _ (ss cs ks vs ts : List ℕ) (ys : List Slot) (zs xs : List ℕ) where
   -- a record that has no form leaves the replica as it is, and that is what it is written back as
   host-bad : fit (length ss) (length cs) ≡ true → formOf xs ≡ Kind.Bad
       → handed (packed (unfitAnswer (formOf xs)) 0) (lent ss cs ks vs ts ys zs) ≡ hosted (lent ss cs ks vs ts ys zs) xs
-  unfolding hosted handedBy laid encAll
+  unfolding hosted handedBy
   host-bad f b =
+      let m = worldOf (lent ss cs ks vs ts ys zs) in
       let long = fit-has (length ss) (length cs) f in
-      rw (f, b, bad-record (worldOf (lent ss cs ks vs ts ys zs)) (length zs) xs b, seat-again ss (long .seat-long), core-again cs (long .core-long))
+      rw (f, b, bad-record m (length zs) xs b, refused-left badRecord m zs, seat-again ss (long .seat-long), core-again cs (long .core-long))
 
   pub host-refused : {x : ℕ} → ready (length ss) (length cs) (formOf xs) ≡ false → x ≡ packed (unfitAnswer (formOf xs)) 0
       → handed x (lent ss cs ks vs ts ys zs) ≡ hosted (lent ss cs ks vs ts ys zs) xs

@@ -1,6 +1,7 @@
 -- What follows from the definition of a step. Assumes nothing.
 --     step-unique        the contract permits one outcome
 --     past-unchanged     "Output bytes past the written count never change."
+--     refused-left       an early refusal writes nothing, and leaves the world
 --     bad-record .. limited    the order of refusals, 16, 34 or 33, 18, 17, then 32, 20, 19: each leaves the world and writes nothing
 use Prim.Native.Nat.{ℕ}
 use mathlib.Core.Bool.{Bool, true, false, cond, true≢false}
@@ -30,6 +31,11 @@ step-unique w out r p q = p ∙ sym q
 pub past-unchanged : (x : Result) (out : List ℕ) → drop (laid x out .written) (laid x out .out) ≡ drop (laid x out .written) out
 unfolding laid
 past-unchanged x out = drop-append-seam (encAll (x .outs)) (drop (length (encAll (x .outs))) out)
+
+-- an early refusal as it is laid out
+pub refused-left : (n : ℕ) (w : World) (out : List ℕ) → laid (refusedIn n w) out ≡ record { answer = n; world = w; written = 0; out = out }
+unfolding laid encAll
+refused-left n w out = refl
 
 -- ---- the order of refusals, one row for each number
 

@@ -17,5 +17,5 @@ pub mod OneDigest
 pub mod Example
 pub mod Readings
 pub mod Laws
-pub mod Refusals
 pub mod Late
+pub mod Refusals

@@ -2,10 +2,11 @@
 -- may keep something left the record and the table as they were, and wrote nothing. Assumes nothing.
 --     early-unchanged      any event
 use Prim.Native.Nat.{ℕ, zero, suc, _+_}
-use mathlib.Core.Bool.{Bool, true, false, cond, true≢false}
+use mathlib.Core.Bool.{Bool, true, false, cond, _||_, true≢false}
 use mathlib.Core.List.{List, [], _∷_}
 use mathlib.Core.Logic.{_⊎_, inl, inr}
 use mathlib.Core.Path.{_≡_, refl, sym, _∙_, ap}
+use borrow.Author.Tests.{eqb-true}
 use lib.Dec.{eqb, ltb}
 use lib.ListN.{length, drop}
 use Rattle.certificates.specs.declared.numbers.Hash.{Hash}
@@ -17,7 +18,7 @@ use Rattle.certificates.specs.Leader.{leaderOf}
 use Rattle.certificates.specs.Signers.{member}
 use Rattle.certificates.specs.Messages.{embeddedCheck, tcCheck, authorCheck}
 use Rattle.certificates.specs.Start.{setupAt}
-use Rattle.certificates.specs.Error.{waitPayload, invalidPayload, roundTooHigh, qcRequiresQuorum, tcRequiresQuorum, numberOf, authorNumber, noRoom, waitParent, ancestorAbsent, roundNotBelow, tableFull}
+use Rattle.certificates.specs.Error.{waitPayload, invalidPayload, roundTooHigh, qcRequiresQuorum, tcRequiresQuorum, numberOf, authorNumber, noRoom, ancestorAbsent, roundNotBelow, unknownAuthority, authorityReuse, talliesFull}
 use Rattle.trace.specs.declared.events.Kind.{Kind}
 use Rattle.trace.specs.declared.events.Block.{Block}
 use Rattle.trace.specs.declared.events.Timeout.{Timeout}
@@ -31,16 +32,14 @@ use Rattle.aggregator.specs.declared.tallies.Added.{Added}
 use Rattle.aggregator.specs.declared.tallies.Added.the-variants.{NoRoom, Used, More, Full}
 use Rattle.aggregator.specs.Tallies.{voteAdded, votesAfter, timeoutAdded, timeoutsAfter}
 use Rattle.synchronizer.specs.declared.table.Slot.{Slot}
-use Rattle.synchronizer.specs.declared.ancestors.Parent.{Parent}
 use Rattle.synchronizer.specs.declared.settle.Work.{Work}
-use Rattle.synchronizer.specs.Table.{placeOf, stored, parentOf, ancestorsBy, ancestorsOf}
-use Rattle.synchronizer.specs.Walk.{Walk, refused as stopped, delivers, andNewer, onParent, walkFrom, walkOf, committedBy, commitOf, noCommit}
-use Rattle.synchronizer.specs.Settle.{answered, isTwoChain, commitIf, linkedOf, processedBy, processedOf}
-use Rattle.synchronizer.proofs.SettleLaws.{settled-block}
+use Rattle.synchronizer.specs.Settle.{Settlement}
+use Rattle.synchronizer.specs.Kept.{waiting, noPlace, noB0, stoppedBy, Keeps}
 use Rattle.moves.specs.State.{State, withCore, withVoted}
 use Rattle.moves.specs.Outcome.{Outcome, quiet, done, after, refused}
 use Rattle.moves.specs.Tallied.{afterVote, voteTallied, afterTimeout, timeoutTallied}
 use Rattle.moves.proofs.TallyLaws.{vote-tallied-is, timeout-tallied-is}
+use Rattle.handlers.proofs.VoteTheorems.{Votes, tallied-votes, author-votes, voting-votes}
 use Rattle.handlers.specs.Sound.{first, signersOf}
 use Rattle.handlers.specs.Votes.{voteCheck, handledVote, mayVote, ownVote, voted, voting}
 use Rattle.handlers.specs.Timeouts.{timeoutCheck, timeoutTaken, timeoutWith, handledTimeout, tcTaken, staleIf, tcWith, handledTC, ticked, ownTimeout, handledTick}
@@ -50,6 +49,7 @@ use Rattle.replica.specs.Step.{World, Result, refusedIn, inWorld, begun, begunB
 use Rattle.replica.specs.Started.{roomy}
 use Rattle.runs.specs.Runs.{Event, stepOn}
 use Rattle.runs.specs.Numbers.{mayKeep}
+use Rattle.runs.proofs.Late.{settled-rows}
 
 abbrev Keeping : ℕ → Type 0
 Keeping n = mayKeep n ≡ true
@@ -58,18 +58,25 @@ Keeping n = mayKeep n ≡ true
 abbrev Fair : State → Outcome → Type 0
 Fair s o = (o ≡ refused (o .answer) s) ⊎ Keeping (o .answer)
 
--- ---- tallies
+-- ---- numbers
 
-vote-tallied-keeping : (m : List ℕ) (own need : ℕ) (s : State) (hash : Hash) (round p stake : ℕ) → Keeping (voteTallied m own need s hash round p stake .answer)
-unfolding mayKeep member
-vote-tallied-keeping m own need s hash round p stake =
-    rw (vote-tallied-is m own need s hash round p stake) (cases (votesAfter (s .votes) round hash p stake need) (voteAdded (s .votes) round hash p stake need))
+one-of : (P : ℕ → Type 0) (n x : ℕ) (xs : List ℕ) → P x → (member n xs ≡ true → P n) → member n (x ∷ xs) ≡ true → P n
+unfolding member
+one-of P n x xs h rest e = cases (eqb n x) refl e
   where
-    cases : (v : List ℕ) (a : Added) → Keeping (afterVote m own s hash round v a .answer)
-    cases v NoRoom = refl
-    cases v Used = refl
-    cases v More = refl
-    cases v (Full i signers) = refl
+    cases : (u : Bool) → eqb n x ≡ u → u || member n xs ≡ true → P n
+    cases true q e = rw (eqb-true n x q) h
+    cases false q e = rest e
+
+-- what a vote may be answered with may keep something
+votes-keep : (n : ℕ) → Votes n → Keeping n
+unfolding mayKeep member
+votes-keep n =
+    one-of Keeping n 0 (unknownAuthority ∷ authorityReuse ∷ talliesFull ∷ []) refl
+    (one-of Keeping n unknownAuthority (authorityReuse ∷ talliesFull ∷ []) refl
+    (one-of Keeping n authorityReuse (talliesFull ∷ []) refl (one-of Keeping n talliesFull [] refl (λ z. absurd (true≢false (sym z))))))
+
+-- ---- tallies
 
 timeout-tallied-keeping : (m : List ℕ) (own need : ℕ) (s : State) (round p stake high : ℕ) → Keeping (timeoutTallied m own need s round p stake high .answer)
 unfolding mayKeep member
@@ -93,27 +100,12 @@ keeping-checked true n s o k h = h
 keeping-checked false n s o k h = k
 
 -- an own vote or timeout has verdict yes: it is refused only for want of stake
-own-keeping : (m : List ℕ) (own : ℕ) → Keeping (authorNumber (authorCheck m own 1))
-unfolding mayKeep member authorCheck
-own-keeping m own = cases (eqb (stakeOf m own) 0)
-  where
-    cases : (u : Bool) → Keeping (authorNumber (cond u (authored.UnknownAuthority record { 0 = own }) (authored.Valid record { 0 = stakeOf m own })))
-    cases true = refl
-    cases false = refl
-
 module _ (m : List ℕ) (own : ℕ) (s : State) where
-  own-vote-keeping : (b : Block) → Keeping (ownVote m own b s .answer)
-  unfolding ownVote
-  own-vote-keeping b =
-      let n = authorNumber (authorCheck m own 1) in
-      keeping-checked (eqb n 0) n s (voteTallied m own (quorumOf m) s (b .digest) (b .round .0) own (stakeOf m own)) (own-keeping m own)
-      (vote-tallied-keeping m own (quorumOf m) s (b .digest) (b .round .0) own (stakeOf m own))
-
   own-timeout-keeping : Keeping (ownTimeout m own s .answer)
   unfolding ownTimeout
   own-timeout-keeping =
       let n = authorNumber (authorCheck m own 1) in
-      keeping-checked (eqb n 0) n s (timeoutTallied m own (quorumOf m) s (s .core .round .0) own (stakeOf m own) (s .core .«high_qc» .round .0)) (own-keeping m own)
+      keeping-checked (eqb n 0) n s (timeoutTallied m own (quorumOf m) s (s .core .round .0) own (stakeOf m own) (s .core .«high_qc» .round .0)) (votes-keep (authorNumber (authorCheck m own 1)) (author-votes m own))
       (timeout-tallied-keeping m own (quorumOf m) s (s .core .round .0) own (stakeOf m own) (s .core .«high_qc» .round .0))
 
   -- ---- the handlers
@@ -124,7 +116,7 @@ module _ (m : List ℕ) (own : ℕ) (s : State) where
       let n = voteCheck m (s .core .round .0) v in
       let p = v .author .0 in
       fair-checked (eqb n 0) n s (voteTallied m own (quorumOf m) s (v .hash) (v .round .0) p (stakeOf m p))
-      (vote-tallied-keeping m own (quorumOf m) s (v .hash) (v .round .0) p (stakeOf m p))
+      (votes-keep (voteTallied m own (quorumOf m) s (v .hash) (v .round .0) p (stakeOf m p) .answer) (tallied-votes m own (quorumOf m) s (v .hash) (v .round .0) p (stakeOf m p)))
 
   fair-timeout : (t : Timeout) (r : List ℕ) → Fair s (handledTimeout m own s t r)
   unfolding handledTimeout timeoutWith timeoutTaken
@@ -150,103 +142,28 @@ fair-tick m own s = cases (ltb roundMax (s .core .round .0))
 
 -- ---- blocks
 
-unfoldable Stopping : Walk → Type 0
-Stopping (stopped n) = Keeping n
-Stopping (delivers bs) = Unit {0}
+-- every row has such a number
+of-row : (p q : Settlement) → p ≡ q → Keeping (q .answer) → Keeping (p .answer)
+of-row p q e h = rw e h
 
-stopping-newer : (w : Walk) (b : Slot) → Stopping w → Stopping (andNewer w b)
-unfolding Stopping
-stopping-newer (stopped n) b h = h
-stopping-newer (delivers bs) b h = tt
-
-stopping-parent : (b : Slot) (last : ℕ) (p : Parent) (w : Walk) → Stopping w → Stopping (onParent b last p w)
-unfolding onParent Stopping mayKeep member
-stopping-parent b last p w h = cases (p .found) (ltb (p .slot .round .0) (b .round .0)) (ltb last (p .slot .round .0))
-  where
-    cases : (x y z : Bool) → Stopping (cond x (cond y (cond z (andNewer w b) (delivers (b ∷ []))) (stopped roundNotBelow)) (stopped ancestorAbsent))
-    cases true true true = stopping-newer w b h
-    cases true true false = tt
-    cases true false z = refl
-    cases false y z = refl
-
-stopping-walk : (n : ℕ) (t : List Slot) (b : Slot) (last : ℕ) → Stopping (walkFrom n t b last)
-unfolding walkFrom Stopping mayKeep member
-stopping-walk zero t b last = refl
-stopping-walk (suc n) t b last = cases (ltb (last + 1) (b .round .0)) (stopping-walk n t (parentOf t b .slot) last)
-  where
-    cases : (u : Bool) → Stopping (walkFrom n t (parentOf t b .slot) last)
-        → Stopping (cond u (onParent b last (parentOf t b) (walkFrom n t (parentOf t b .slot) last)) (delivers (b ∷ [])))
-    cases true h = stopping-parent b last (parentOf t b) (walkFrom n t (parentOf t b .slot) last) h
-    cases false h = tt
-
-committed-keeping : (b : Slot) (last : ℕ) (w : Walk) → Stopping w → Keeping (committedBy b last w .answer)
-unfolding Stopping mayKeep member
-committed-keeping b last (stopped n) h = h
-committed-keeping b last (delivers bs) h = refl
-
-commit-keeping : (t : List Slot) (b : Slot) (last : ℕ) → Keeping (commitOf t b last .answer)
-unfolding commitOf walkOf mayKeep member
-commit-keeping t b last = cases (ltb last (b .round .0))
-  where
-    cases : (u : Bool) → Keeping (cond u (committedBy b last (walkFrom (suc (length t)) t b last)) (noCommit last) .answer)
-    cases true = committed-keeping b last (walkFrom (suc (length t)) t b last) (stopping-walk (suc (length t)) t b last)
-    cases false = refl
-
-linked-keeping : (t : List Slot) (b b0 b1 : Slot) (last : ℕ) → Keeping (linkedOf t b b0 b1 last .answer)
-unfolding linkedOf commitIf mayKeep member
-linked-keeping t b b0 b1 last = cases (isTwoChain b0 b1)
-  where
-    cases : (u : Bool) → Keeping (cond u (commitOf t b0 last) (noCommit last) .answer)
-    cases true = commit-keeping t b0 last
-    cases false = refl
-
-ancestors-keeping : (p1 p0 : Parent) → Keeping (ancestorsBy p1 p0 .answer)
+row-keeping : (t : List Slot) (w : Work) (p : Settlement) → Keeps t w p → Keeping (p .answer)
 unfolding mayKeep member
-ancestors-keeping p1 p0 = cases (p1 .found) (p0 .found)
-  where
-    cases : (x y : Bool) → Keeping (cond x (cond y 0 ancestorAbsent) waitParent)
-    cases true true = refl
-    cases true false = refl
-    cases false y = refl
-
-processed-of-keeping : (t : List Slot) (w : Work) → Keeping (processedOf t w .answer)
-unfolding processedBy ancestorsOf mayKeep member
-processed-of-keeping t w = cases (eqb (ancestorsOf t (w .block) .answer) 0) (ltb (placeOf t (w .block)) (length t))
-  where
-    cases : (u v : Bool) → Keeping
-        (cond u (cond v (linkedOf (stored t (w .block)) (w .block) (ancestorsOf t (w .block) .b0) (ancestorsOf t (w .block) .b1) (w .last .0)) (answered tableFull t (w .last .0) []))
-        (answered (ancestorsOf t (w .block) .answer) t (w .last .0) []) .answer)
-    cases true true = linked-keeping (stored t (w .block)) (w .block) (ancestorsOf t (w .block) .b0) (ancestorsOf t (w .block) .b1) (w .last .0)
-    cases true false = refl
-    cases false v = ancestors-keeping (parentOf t (w .block)) (parentOf t (parentOf t (w .block) .slot))
+row-keeping t w p (inl e) = of-row p (waiting t w) e refl
+row-keeping t w p (inr (inl e)) = of-row p (noPlace t w) e refl
+row-keeping t w p (inr (inr (inl e))) = of-row p (noB0 t w) e refl
+row-keeping t w p (inr (inr (inr (inl e)))) = of-row p (stoppedBy ancestorAbsent t w) e refl
+row-keeping t w p (inr (inr (inr (inr (inl e))))) = of-row p (stoppedBy roundNotBelow t w) e refl
+row-keeping t w p (inr (inr (inr (inr (inr e))))) = rw (e .1)
 
 settled-keeping : (s : State) (t : List Slot) (b : Block) → Keeping (settledFor s t b .answer)
-unfolding settledFor
-settled-keeping s t b = let w = workFor b (s .core .«last_committed_round») 0 in rw (settled-block t w refl) (processed-of-keeping t w)
-
-voted-keeping : (m : List ℕ) (own : ℕ) (b : Block) (s : State) → Keeping (voted m own b s .answer)
-unfolding voted mayKeep member
-voted-keeping m own b s = cases (eqb (leaderOf m (b .round .0 + 1)) own)
-  where
-    cases : (u : Bool) → let t = withCore s (withVoted (s .core) (b .round .0)) in Keeping (cond u (ownVote m own b t) (done 0 (quiet t)) .answer)
-    cases true = own-vote-keeping m own (withCore s (withVoted (s .core) (b .round .0))) b
-    cases false = refl
-
-voting-keeping : (m : List ℕ) (own : ℕ) (b : Block) (s : State) → Keeping (voting m own b s .answer)
-unfolding voting mayKeep member
-voting-keeping m own b s = cases (eqb (b .round .0) (s .core .round .0)) (mayVote (s .core) b)
-  where
-    cases : (u v : Bool) → Keeping (cond u (cond v (voted m own b s) (done 0 (quiet s))) (done 0 (quiet s)) .answer)
-    cases true true = voted-keeping m own b s
-    cases true false = refl
-    cases false v = refl
+settled-keeping s t b = row-keeping t (workFor b (s .core .«last_committed_round») 0) (settledFor s t b) (settled-rows t b s)
 
 processed-keeping : (m : List ℕ) (own : ℕ) (t : List Slot) (b : Block) (s : State) → Keeping (processed m own t b s .answer)
 unfolding processed afterSettled
 processed-keeping m own t b s = cases (eqb (settledFor s t b .answer) 0)
   where
     cases : (u : Bool) → Keeping (cond u (after (settledStep s (settledFor s t b)) (voting m own b)) (done (settledFor s t b .answer) (settledStep s (settledFor s t b))) .answer)
-    cases true = voting-keeping m own b (settledStep s (settledFor s t b) .state)
+    cases true = votes-keep (voting m own b (settledStep s (settledFor s t b) .state) .answer) (voting-votes m own b (settledStep s (settledFor s t b) .state))
     cases false = settled-keeping s t b
 
 payload-keeping : (payload : ℕ) → Keeping (payloadNumber payload)

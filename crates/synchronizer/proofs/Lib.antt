@@ -1,6 +1,7 @@
 pub mod Again
 pub mod Cases
 pub mod ChainLaws
+pub mod KeptLaws
 pub mod Lent
 pub mod Row
 pub mod SettleLaws

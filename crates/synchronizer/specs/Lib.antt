@@ -2,3 +2,4 @@ pub mod Table
 pub mod Walk
 pub mod Settle
 pub mod Parts
+pub mod Kept
