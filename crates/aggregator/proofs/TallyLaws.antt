@@ -22,6 +22,7 @@ use lib.Seq.{getD-set-same, getD-set-other}
 use Rattle.certificates.specs.declared.numbers.Hash.{Hash}
 use Rattle.certificates.specs.declared.numbers.Signers.{Signers}
 use Rattle.certificates.specs.Numbers.{sameHash}
+use Rattle.certificates.proofs.NumbersLaws.{both, hash-same}
 use Rattle.aggregator.specs.declared.tallies.Added.{Added}
 use Rattle.aggregator.specs.declared.tallies.Added.the-variants.{NoRoom, Used, More, Full}
 use Rattle.aggregator.specs.Rows.{zeros}
@@ -191,10 +192,6 @@ past-free : (b x : Bool) → cond b false x ≡ true → x ≡ true
 past-free true x e = absurd (let z : _≡_ {A = ℕ} 0 1 = cc in omega arith)
 past-free false x e = e
 
-both : (b x : Bool) → cond b x false ≡ true → (b ≡ true) × (x ≡ true)
-both true x e = (refl, e)
-both false x e = absurd (let z : _≡_ {A = ℕ} 0 1 = cc in omega arith)
-
 -- ---- names
 
 pub name-none : (p : ℕ) → hasName 0 p ≡ true → ⊥
@@ -339,15 +336,6 @@ timeout-kind round p high =
     }
 
 -- ---- what a test says of a tally
-
-hash-same : (x y : Hash) → sameHash x y ≡ true → x ≡ y
-hash-same x y e =
-    let a = both (eqb (x .a) (y .a)) _ e in
-    let b = both (eqb (x .b) (y .b)) _ (a .1) in
-    let c = both (eqb (x .c) (y .c)) _ (b .1) in
-    let r : _≡_ {A = Hash} (record { a = x .a; b = x .b; c = x .c; d = x .d }) (record { a = y .a; b = y .b; c = y .c; d = y .d })
-    = rw (eqb-true (x .a) (y .a) (a .0), eqb-true (x .b) (y .b) (b .0), eqb-true (x .c) (y .c) (c .0), eqb-true (x .d) (y .d) (c .1)) in
-    r
 
 -- a vote tally that is found is of that round and hash
 pub vote-is : (round : ℕ) (hash : Hash) (t : List ℕ) → isVote round hash t ≡ true → (roundOf t ≡ round) × (hashOf t ≡ hash)

@@ -2,6 +2,7 @@ pub mod Bytes
 pub mod ConfigLaws
 pub mod StartLaws
 pub mod LeaderLaws
+pub mod NumbersLaws
 pub mod Words
 pub mod Sets
 pub mod SignersLaws

@@ -122,7 +122,7 @@ settled-linked t b low found =
       blocks = bs;
       are = only-append isCommit clean (map commitRec bs) ∙ rw (c .delivers) (commits-delivered bs);
       by = commit-if b t (stored t b) low found;
-      stores = inr refl;
+      stores = inr (refl, found);
     }
 
 settled-by : (t : List Slot) (w : Work) → Settled (w .block) t (w .last .0) (processedOf t w)

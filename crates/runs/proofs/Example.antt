@@ -1,9 +1,9 @@
--- Nothing here is vacuous: a committee of four, one of whom breaks the rules, and the runs of the other three, from bytes. They meet every premise of
+-- Nothing here is vacuous: a committee of four, one of whom breaks the rules, and the courses of the other three, never cut, from bytes. They meet every premise of
 -- `one-digest`, and each delivers a block. By computation.
 --     startBytes, proposeBytes, loopbackBytes, voteBytes     records
---     runOf p                              the run of place p
+--     runOf p                              the course of place p
 --     outputs0, outputs1, outputs2         all that each of the three writes
---     four                                 the members, with their runs
+--     four                                 the members, with their courses
 --     certificate1, wider1, certificate2   certificates of rounds 1 and 2 that meet every premise, two of them for one round
 --     delivers                             each member that obeys delivers block 1
 --     committed-above                      why the invariant does not say that last committed is below the round
@@ -43,55 +43,56 @@ use Rattle.handlers.specs.Votes.{voteCheck, handledVote, extends, mayVote, ownV
 use Rattle.replica.specs.Step.{World, newCore, committee, newStakes, announced, begun, stepped}
 use Rattle.replica.specs.Blocks.{settledFor, afterSettled, processed, processedTable, goingOn, goingOnTable}
 use Rattle.replica.specs.Started.{sized, shaped, startedOf, roomy}
-use Rattle.runs.specs.Runs.{Event, Begun, Run, origin, end, outputs, Written, roundOf, committedOf, worldAfter, outsOf}
-use Rattle.runs.specs.Signed.{Members, Signed, Certificate, qcBytes}
+use Rattle.runs.specs.Runs.{Event, Begun, Written, roundOf, committedOf}
+use Rattle.runs.specs.Courses.{worldAfter, outsOf, Course, origin, end, outputs, uncut}
+use Rattle.runs.specs.Signed.{Members, Sits, Signed, Certificate, qcBytes}
 
 -- every definition that a step rests on: who unfolds this one unfolds them all
-definitions : ℕ
-unfolding sum stakeOf quorumFrom quorumOf limited setupOf leaderOf isGenesis verdictIn countOf placesIn isWhole unknownTo settledList checkFrom checkPart qcCheck equalsGenesis embeddedCheck authorCheck le numAt hashAt numsAt bitOf sumAt isIn stakeIn signersFrom signersOf weightOf member stakeOn memberCount ownPlace stakesIn keyAt keysFrom keysIn below ascending setupAt padded loadedStakes voteOf tcRoundOf tcHighOf blockOf blockMarks anyAbove isFormed formOf qcPart flagAt tcAt blockEnd payloadOf blockCounts blockRounds limitOf digits hashBytes bytesOf placesFrom placesOf findRow findFree findHeavy heavy dropped placeFor tableFor added after voteAdded votesAfter isVote kept newVote noHigh withAuthor answerOf isTwoChain cleanOf commitIf linkedOf processedBy waitOf settledOf fits lowest placeOf stored cleared parentOf ancestorsOf onParent walkFrom walkOf commitOf advanced raised takenQC makeOf certified voteTallied leaderCheck tcNumber proposalCheck advancedTC taken payloadNumber byPayload proposalWith proposalOf voteCheck handledVote extends mayVote ownVote voted voting settledFor afterSettled processed processedTable goingOn goingOnTable sized shaped startedOf roomy newStakes announced begun stepped worldAfter outsOf qcBytes ones
+pub definitions : ℕ
+unfolding sum stakeOf quorumFrom quorumOf limited setupOf leaderOf isGenesis verdictIn countOf placesIn isWhole unknownTo settledList checkFrom checkPart qcCheck equalsGenesis embeddedCheck authorCheck le numAt hashAt numsAt bitOf sumAt isIn stakeIn signersFrom signersOf weightOf member stakeOn memberCount ownPlace stakesIn keyAt keysFrom keysIn below ascending setupAt padded loadedStakes voteOf tcRoundOf tcHighOf blockOf blockMarks anyAbove isFormed formOf qcPart flagAt tcAt blockEnd payloadOf blockCounts blockRounds limitOf digits hashBytes bytesOf placesFrom placesOf findRow findFree findHeavy heavy dropped placeFor tableFor added after voteAdded votesAfter isVote kept newVote noHigh withAuthor answerOf isTwoChain cleanOf commitIf linkedOf processedBy waitOf settledOf fits lowest placeOf stored cleared parentOf ancestorsOf onParent walkFrom walkOf commitOf advanced raised takenQC makeOf certified voteTallied leaderCheck tcNumber proposalCheck advancedTC taken payloadNumber byPayload proposalWith proposalOf voteCheck handledVote extends mayVote ownVote voted voting settledFor afterSettled processed processedTable goingOn goingOnTable sized shaped startedOf roomy newStakes announced begun stepped worldAfter outsOf uncut qcBytes ones
 definitions = 0
 
 -- ---- records
 
-abbrev digest : ℕ → Hash
+abbrev pub digest : ℕ → Hash
 digest n = record { a = n; b = 0; c = 0; d = 0 }
 
 -- a QC for the block of round n, by a word of signers
-abbrev qc : ℕ → ℕ → QC
+abbrev pub qc : ℕ → ℕ → QC
 qc n word = record { hash = digest n; round = record { 0 = n }; signers = record { 0 = word } }
 
-abbrev genesis : QC
+abbrev pub genesis : QC
 genesis = newCore .«high_qc»
 
 -- START: four members with stake 1
-startBytes : ℕ → List ℕ
+pub startBytes : ℕ → List ℕ
 startBytes own =
     bytesOf (number 2 1 ∷ number 2 4 ∷ number 2 own ∷ hash (digest 0) ∷ number 4 1 ∷ hash (digest 1) ∷ number 4 1 ∷ hash (digest 2) ∷ number 4 1
     ∷ hash (digest 3) ∷ number 4 1 ∷ [])
 
 -- the block of round n, by its leader, on the QC q
-blockBytes : ℕ → QC → List ℕ
+pub blockBytes : ℕ → QC → List ℕ
 blockBytes n q = bytesOf (hash (digest n) ∷ number 2 (n % 4) ∷ number 8 n ∷ number 1 1 ∷ []) ++ (qcBytes q ++ (0 ∷ []))
 
-proposeBytes : ℕ → QC → List ℕ
+pub proposeBytes : ℕ → QC → List ℕ
 unfolding blockBytes
 proposeBytes n q = 2 ∷ 0 ∷ (blockBytes n q ++ (1 ∷ []))
 
-loopbackBytes : ℕ → QC → List ℕ
+pub loopbackBytes : ℕ → QC → List ℕ
 unfolding blockBytes
 loopbackBytes n q = 6 ∷ 0 ∷ blockBytes n q
 
 -- a vote of p for the block of round n
-voteBytes : ℕ → ℕ → List ℕ
+pub voteBytes : ℕ → ℕ → List ℕ
 voteBytes n p = bytesOf (number 2 3 ∷ hash (digest n) ∷ number 8 n ∷ number 2 p ∷ number 1 1 ∷ [])
 
-event : List ℕ → Event
+pub event : List ℕ → Event
 event r = record { room = 4096; bytes = r }
 
 -- ---- runs
 
 -- memory before START: a table of four slots
-lent : World
+pub lent : World
 lent =
     record {
       seat = record { count = 0; own = record { 0 = 0 } };
@@ -100,15 +101,15 @@ lent =
       table = replicate 4 blank;
     }
 
-begun0 : Begun lent (event (startBytes 0))
+pub begun0 : Begun lent (event (startBytes 0))
 unfolding event lent startBytes definitions
 begun0 = record { start = refl; taken = refl }
 
-begun1 : Begun lent (event (startBytes 1))
+pub begun1 : Begun lent (event (startBytes 1))
 unfolding event lent startBytes definitions
 begun1 = record { start = refl; taken = refl }
 
-begun2 : Begun lent (event (startBytes 2))
+pub begun2 : Begun lent (event (startBytes 2))
 unfolding event lent startBytes definitions
 begun2 = record { start = refl; taken = refl }
 
@@ -125,11 +126,11 @@ unfolding event proposeBytes blockBytes
 three = event (proposeBytes 3 (qc 2 7))
 
 -- Place 2 leads round 2: the votes of 0 and 1 go to it, and with its own they make the QC of round 1.
-runOf : ℕ → Run
-runOf zero = record { lent = lent; start = event (startBytes 0); begun = begun0; events = one ∷ two ∷ three ∷ [] }
-runOf (suc zero) = record { lent = lent; start = event (startBytes 1); begun = begun1; events = one ∷ two ∷ three ∷ [] }
+runOf : ℕ → Course
+runOf zero = record { lent = lent; start = event (startBytes 0); begun = begun0; stages = uncut (one ∷ two ∷ three ∷ []) }
+runOf (suc zero) = record { lent = lent; start = event (startBytes 1); begun = begun1; stages = uncut (one ∷ two ∷ three ∷ []) }
 runOf (suc (suc p)) =
-    record { lent = lent; start = event (startBytes 2); begun = begun2; events = one ∷ event (voteBytes 1 0) ∷ event (voteBytes 1 1) ∷ two ∷ three ∷ [] }
+    record { lent = lent; start = event (startBytes 2); begun = begun2; stages = uncut (one ∷ event (voteBytes 1 0) ∷ event (voteBytes 1 1) ∷ two ∷ three ∷ []) }
 
 outs0 : List Rec
 outs0 =
@@ -190,7 +191,7 @@ seated4 (suc (suc (suc (suc p)))) h o = absurd (omega arith)
 
 pub four : Members
 unfolding definitions
-four = record { stakes = ones4; breakers = third; run = runOf; few = omega arith; same = same4; seated = seated4 }
+four = record { stakes = ones4; breakers = third; course = runOf; few = omega arith; same = same4; seated = seated4 }
 
 -- ---- each of the three signs block 1 and block 2, and delivers block 1
 
@@ -226,17 +227,6 @@ obeying (suc (suc zero)) h o = inr (inr refl)
 obeying (suc (suc (suc zero))) h o = absurd (omega (arith, o))
 obeying (suc (suc (suc (suc p)))) h o = absurd (omega arith)
 
-below4 : (p : ℕ) → member p (0 ∷ 1 ∷ 2 ∷ 3 ∷ []) ≡ true → p < 4
-unfolding member
-below4 p e = cases (eqb p 0) (eqb p 1) (eqb p 2) (eqb p 3) refl refl refl refl e
-  where
-    cases : (a b c d : Bool) → eqb p 0 ≡ a → eqb p 1 ≡ b → eqb p 2 ≡ c → eqb p 3 ≡ d → (a || (b || (c || (d || false)))) ≡ true → p < 4
-    cases true b c d x y z w e = omega (arith, eqb-true p 0 x)
-    cases false true c d x y z w e = omega (arith, eqb-true p 1 y)
-    cases false false true d x y z w e = omega (arith, eqb-true p 2 z)
-    cases false false false true x y z w e = omega (arith, eqb-true p 3 w)
-    cases false false false false x y z w e = absurd (let h : _≡_ {A = ℕ} 0 1 = cc in omega arith)
-
 module _ (p : ℕ) where
   signed1 : (p ≡ 0) ⊎ ((p ≡ 1) ⊎ (p ≡ 2)) → Signed four p (digest 1) 1
   unfolding four outs0 outs1 outs2
@@ -263,7 +253,7 @@ certificate1 =
       other = refl;
       signers = record { 0 = 7 };
       accepted = refl;
-      result = λ p e o. signed1 p (among p e);
+      result = λ p o e. signed1 p (among p e);
     }
 
 -- Block 1 once more, by all four: the signature of 3, who breaks the rules, binds nobody.
@@ -277,7 +267,7 @@ wider1 =
       other = refl;
       signers = record { 0 = 15 };
       accepted = refl;
-      result = λ p e o. signed1 p (obeying p (below4 p e) o);
+      result = λ p o e. signed1 p (obeying p (o .member) (o .obeys));
     }
 
 -- Block 2, signed by 0, 1 and 2.
@@ -291,13 +281,13 @@ certificate2 =
       other = refl;
       signers = record { 0 = 7 };
       accepted = refl;
-      result = λ p e o. signed2 p (among p e);
+      result = λ p o e. signed2 p (among p e);
     }
 
 -- Each member that obeys delivers block 1.
-pub delivers : (p : ℕ) → p < 4 → isIn (four .breakers) p ≡ 0 → Written (commit (digest 1) 1) (outputs (four .run p))
+pub delivers : (p : ℕ) → Sits four p → Written (commit (digest 1) 1) (outputs (four .course p))
 unfolding four
-delivers p h o = cases (obeying p h o)
+delivers p o = cases (obeying p (o .member) (o .obeys))
   where
     cases : (p ≡ 0) ⊎ ((p ≡ 1) ⊎ (p ≡ 2)) → Written (commit (digest 1) 1) (outputs (runOf p))
     cases (inl e) = rw e delivers0
@@ -307,13 +297,13 @@ delivers p h o = cases (obeying p h o)
 -- ---- last committed is not below the round in every run
 
 -- Three blocks of rounds 10, 11 and 12 by LOOPBACK, whose certificates are not taken: the round stays 1, and the first is delivered.
-pub hasty : Run
+pub hasty : Course
 hasty =
     record {
       lent = lent;
       start = event (startBytes 0);
       begun = begun0;
-      events = event (loopbackBytes 10 genesis) ∷ event (loopbackBytes 11 (qc 10 7)) ∷ event (loopbackBytes 12 (qc 11 7)) ∷ [];
+      stages = uncut (event (loopbackBytes 10 genesis) ∷ event (loopbackBytes 11 (qc 10 7)) ∷ event (loopbackBytes 12 (qc 11 7)) ∷ []);
     }
 
 pub committed-above : (committedOf (end hasty) ≡ 10) × (roundOf (end hasty) ≡ 1)

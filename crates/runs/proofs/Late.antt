@@ -2,6 +2,7 @@
 -- `specs/Kept.antt` of `synchronizer`. A proposal's certificates were taken before (`after`), and stay; 3 and 27 keep these alone (`proposal-takes` of
 -- `handlers`). Assumes nothing.
 --     settled-rows                                        what a block leaves at the table is a row
+--     by-table                                            a number that no vote has is the table's
 --     late-waits, late-full, late-absent, late-below      2, 28, 30 and 31
 use Prim.Native.Nat.{ℕ}
 use mathlib.Core.Bool.{Bool, true, false, cond, true≢false}
@@ -37,7 +38,7 @@ module _ (m : List ℕ) (own : ℕ) (t : List Slot) (b : Block) (s : State) wher
   outcome = processed m own t b s
 
   -- a number that no vote has is the table's
-  by-table : (n : ℕ) → (Votes n → ⊥) → outcome .answer ≡ n → (settledFor s t b .answer ≡ n) × (outcome ≡ done n (settledStep s (settledFor s t b)))
+  pub by-table : (n : ℕ) → (Votes n → ⊥) → outcome .answer ≡ n → (settledFor s t b .answer ≡ n) × (outcome ≡ done n (settledStep s (settledFor s t b)))
   unfolding processed afterSettled
   by-table n never e = cases (eqb (settledFor s t b .answer) 0) e
     where

@@ -4,7 +4,7 @@
 --     Signs b q c a            the step a signs nothing, one VOTE or one TIMEOUT, and last voted moves with it
 --     Commits, Deliveries      a commit: which block it starts from, and the walk; what is delivered, if anything
 --     Delivers b t t′ low a    the COMMITs of the step a, over the tables t before it and t′ after it, low being last committed before it
---     Stores b t t′            the table t′ is t, or has the block b stored in it
+--     Stores b t t′            the table t′ is t, or has the block b stored in it, whose ancestors were found
 --     Lawful total b q t t′ s a     all of it, with the high QC below the round, and last voted not above it
 --     stays-keeps, stays-then, stays-core    what stays
 --     delivers-none, lawful-plain            what votes for nothing and commits nothing
@@ -87,8 +87,9 @@ pub record Delivers (b : Slot) (t t′ : List Slot) (low : ℕ) (a : Step) : Typ
   pub are : deliveredIn (a .outs) ≡ map commitRec blocks
   pub by : Deliveries b t t′ low blocks (committedIn (a .state .core))
 
+-- a block is stored only where its parent and its grandparent are
 abbrev pub Stores : Slot → List Slot → List Slot → Type 0
-Stores b t t′ = (t′ ≡ t) ⊎ (t′ ≡ stored t b)
+Stores b t t′ = (t′ ≡ t) ⊎ ((t′ ≡ stored t b) × (ancestorsOf t b .answer ≡ 0))
 
 pub record Lawful (total : ℕ) (b : Block) (q : ℕ) (t t′ : List Slot) (s : State) (a : Step) : Type 0 where
   pub stays : Stays total s (a .state)

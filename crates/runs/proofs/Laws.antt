@@ -2,10 +2,10 @@
 -- w is the world before the event e, `stepOn w e` what it gives. Assumes nothing.
 --     stays-started                        it counts as started still
 --     members-same, slots-same             count, own place, stakes and the table's length never change
---     table-stores                         the table is as it was, or has the event's block stored in it
+--     table-stores, table-has, table-closed    the table is as it was, or has the event's block stored in it; it stays closed under parents
 --     round-rises, high-rises, committed-rises, voted-rises     no round falls
 --     high-below, voted-within             the high QC stays below the round, and last voted not above it
---     one-signature                        at most one VOTE or TIMEOUT, never both
+--     one-signature, one-signed            at most one VOTE or TIMEOUT, never both
 --     vote-new, vote-last                  a VOTE is above last voted, and is the new last voted
 --     timeout-kept, timeout-high           a TIMEOUT is not above the new last voted; it names the round and the high QC that the event found
 --     vote-block, vote-rule                a VOTE names the event's block, which meets the voting rule
@@ -13,12 +13,13 @@
 --     commit-new, commits-rise, commit-kept, commit-last, commit-none      the rounds of an event's COMMITs
 --     deliveries, deliveries-chain         the blocks of its COMMITs
 use Prim.Native.Nat.{ℕ, _+_, _≤_, _<_}
+use mathlib.Core.Bool.{true}
 use mathlib.Core.List.{List, [], _∷_, _++_}
-use mathlib.Core.Logic.{_⊎_}
-use mathlib.Core.Path.{_≡_, refl, sym, _∙_}
+use mathlib.Core.Logic.{_⊎_, inl, inr}
+use mathlib.Core.Path.{_≡_, refl, sym, ap, _∙_}
 use native.Mathlib.Nat.{le-trans}
 use native.Mathlib.Omega.{arith}
-use lib.ListN.{length}
+use lib.ListN.{length, length-append}
 use Rattle.certificates.specs.declared.numbers.Hash.{Hash}
 use Rattle.certificates.specs.declared.numbers.Stake.{Stake}
 use Rattle.certificates.specs.declared.messages.QC.{QC}
@@ -31,13 +32,14 @@ use Rattle.synchronizer.specs.declared.table.Slot.{Slot}
 use Rattle.synchronizer.specs.Table.{ancestorsOf}
 use Rattle.synchronizer.specs.Walk.{chainOf}
 use Rattle.synchronizer.proofs.WalkLaws.{commit-chain}
+use Rattle.synchronizer.proofs.Lookups.{Has, stored-has, Closed, closed-stored, ancestors-both}
 use Rattle.moves.specs.declared.state.Core.{Core}
 use Rattle.moves.specs.Outcome.{Step}
 use Rattle.handlers.proofs.VoteTheorems.{ExtendsTC, extends-rule}
 use Rattle.replica.specs.Blocks.{slotFor}
 use Rattle.replica.specs.Step.{World}
 use Rattle.runs.specs.Runs.{Event, stepOn, Written, Behind, isSigned, isCommit, signedIn, deliveredIn, roundOf, votedOf, committedOf, highOf}
-use Rattle.runs.proofs.Lists.{written-only, behind-only, written-none, written-one}
+use Rattle.runs.proofs.Lists.{written-only, behind-only, written-ordered, written-none, written-one}
 use Rattle.runs.proofs.Marks.{Marked, marked-le, marked-above, marked-behind, marked-within, marked-last}
 use Rattle.runs.proofs.Lawful.{Ballot, Signs, nothing, ballot, expiry, Deliveries, none, some, Delivers, Stores}
 use Rattle.runs.proofs.Blocks.{commit-of}
@@ -50,6 +52,10 @@ signed-length : {b : Block} {q : ℕ} {c : Core} {a : Step} → Signs b q c a �
 signed-length (nothing e v) = rw e (omega arith)
 signed-length (ballot k) = rw (k .is) (omega arith)
 signed-length (expiry e v) = rw e (omega arith)
+
+-- in a list of one record none stands behind another
+behind-long : {a b : Rec} {rs : List Rec} → length rs ≤ 1 → Behind a b rs → ⊥
+behind-long {a} {b} l k = omega (arith, simp (length-append) at (ap length (k .is)))
 
 module _ {b : Block} {q : ℕ} {c : Core} {a : Step} where
   signed-vote : {to n : ℕ} {h : Hash} → Signs b q c a → Written (vote to h n) (signedIn (a .outs)) → (h ≡ b .digest) × (n ≡ b .round .0) × Ballot b q c a
@@ -93,6 +99,25 @@ module _ (w : World) (e : Event) (t : Stake) (s : Started w t) where
   pub table-stores : Stores (slotFor (blockOf (e .bytes))) (w .table) (stepOn w e .world .table)
   table-stores = step-lawful w e t s .lawful .stores
 
+  -- What it holds then it held before, or is the event's block.
+  pub table-has : (x : Slot) → Has (stepOn w e .world .table) x → (x ≡ slotFor (blockOf (e .bytes))) ⊎ Has (w .table) x
+  table-has x h = cases table-stores
+    where
+      cases : Stores (slotFor (blockOf (e .bytes))) (w .table) (stepOn w e .world .table) → (x ≡ slotFor (blockOf (e .bytes))) ⊎ Has (w .table) x
+      cases (inl f) = inr (rw f at h)
+      cases (inr f) = stored-has (w .table) (slotFor (blockOf (e .bytes))) x (rw (f .0) at h)
+
+  -- A closed table stays closed: a block is stored only where its parent is.
+  pub table-closed : Closed (w .table) → Closed (stepOn w e .world .table)
+  table-closed c = cases table-stores
+    where
+      b : Slot
+      b = slotFor (blockOf (e .bytes))
+
+      cases : Stores (slotFor (blockOf (e .bytes))) (w .table) (stepOn w e .world .table) → Closed (stepOn w e .world .table)
+      cases (inl f) = rw f c
+      cases (inr f) = rw (f .0) (closed-stored (w .table) b c refl (ancestors-both (w .table) b (f .1) .0))
+
   pub round-rises : roundOf w ≤ roundOf (stepOn w e .world)
   round-rises = step-lawful w e t s .lawful .stays .round
 
@@ -118,6 +143,15 @@ module _ (w : World) (e : Event) (t : Stake) (s : Started w t) where
   -- At most one VOTE or TIMEOUT leaves an event, never both.
   pub one-signature : length (signedIn (stepOn w e .outs)) ≤ 1
   one-signature = signed-length (step-lawful w e t s .lawful .signs)
+
+  -- Two records of one event that sign something are one.
+  pub one-signed : {a b : Rec} → isSigned a ≡ true → isSigned b ≡ true → Written a (stepOn w e .outs) → Written b (stepOn w e .outs) → a ≡ b
+  one-signed {a} {b} f g u v = cases (written-ordered (written-only isSigned f u) (written-only isSigned g v))
+    where
+      cases : (a ≡ b) ⊎ (Behind a b (signedIn (stepOn w e .outs)) ⊎ Behind b a (signedIn (stepOn w e .outs))) → a ≡ b
+      cases (inl x) = x
+      cases (inr (inl k)) = absurd (behind-long one-signature k)
+      cases (inr (inr k)) = absurd (behind-long one-signature k)
 
   module _ {to n : ℕ} {h : Hash} (v : Written (vote to h n) (stepOn w e .outs)) where
     cast : (h ≡ blockOf (e .bytes) .digest) × (n ≡ blockOf (e .bytes) .round .0)

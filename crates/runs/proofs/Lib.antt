@@ -5,6 +5,7 @@ pub mod Lawful
 pub mod Voting
 pub mod Blocks
 pub mod Steps
+pub mod Restart
 pub mod Rounds
 pub mod Theorems
 pub mod Calls
@@ -13,9 +14,15 @@ pub mod Certificates
 pub mod Kept
 pub mod Handled
 pub mod Invariant
+pub mod Time
+pub mod CourseLives
+pub mod Quorums
+pub mod Parties
 pub mod OneDigest
 pub mod Example
 pub mod Readings
 pub mod Laws
 pub mod Late
+pub mod Brings
+pub mod Answers
 pub mod Refusals

@@ -4,9 +4,10 @@
 --     written-only, behind-only       what stands in a list, or behind another record, stands so among those looked for
 --     written-ordered                 two records of one list are the same, or one stands behind the other
 --     written-none, written-one       what stands in a list of no record, and of one
+--     written-front, written-behind, written-either     what stands in two lists, one after the other
 use mathlib.Core.Bool.{Bool, true, false, cond}
-use mathlib.Core.List.{List, [], _∷_, _++_}
-use mathlib.Core.Logic.{_⊎_, inl, inr}
+use mathlib.Core.List.{List, [], _∷_, _++_, append-assoc}
+use mathlib.Core.Logic.{_⊎_, inl, inr, ⊎-elim}
 use mathlib.Core.Path.{_≡_, refl, sym, _∙_, ap}
 use native.Mathlib.Omega.{arith}
 use lib.ListN.{length, length-append}
@@ -85,3 +86,24 @@ one-at a b (x ∷ xs) ys e = let f : [] ≡ xs ++ (a ∷ ys) = cc in absurd (non
 
 pub written-one : {a b : Rec} → Written a (b ∷ []) → a ≡ b
 written-one {a} {b} w = one-at a b (w .before) (w .rest) (w .is)
+
+-- ---- two lists, one after the other
+
+pub written-behind : {a : Rec} (xs : List Rec) {ys : List Rec} → Written a ys → Written a (xs ++ ys)
+written-behind {a} xs w = record { before = xs ++ w .before; rest = w .rest; is = ap (λ (l : List Rec). xs ++ l) (w .is) ∙ sym (append-assoc xs (w .before) (a ∷ w .rest)) }
+
+pub written-front : {a : Rec} {xs : List Rec} (ys : List Rec) → Written a xs → Written a (xs ++ ys)
+written-front {a} ys w = record { before = w .before; rest = w .rest ++ ys; is = ap (λ (l : List Rec). l ++ ys) (w .is) ∙ append-assoc (w .before) (a ∷ w .rest) ys }
+
+in-either : (a : Rec) (xs ys bs cs : List Rec) → xs ++ ys ≡ bs ++ (a ∷ cs) → Written a xs ⊎ Written a ys
+in-either a [] ys bs cs e = inr (record { before = bs; rest = cs; is = e })
+in-either a (x ∷ xs) ys [] cs e = let f : x ≡ a = cc in inl (record { before = []; rest = xs; is = ap (λ (r : Rec). r ∷ xs) f })
+in-either a (x ∷ xs) ys (b ∷ bs) cs e =
+    let f : xs ++ ys ≡ bs ++ (a ∷ cs) = cc in
+    ⊎-elim
+    (λ w. inl (record { before = x ∷ w .before; rest = w .rest; is = ap (λ (l : List Rec). x ∷ l) (w .is) }))
+    (λ w. inr w)
+    (in-either a xs ys bs cs f)
+
+pub written-either : {a : Rec} (xs ys : List Rec) → Written a (xs ++ ys) → Written a xs ⊎ Written a ys
+written-either {a} xs ys w = in-either a xs ys (w .before) (w .rest) (w .is)

@@ -50,6 +50,7 @@ use Rattle.replica.specs.Started.{roomy}
 use Rattle.runs.specs.Runs.{Event, stepOn}
 use Rattle.runs.specs.Numbers.{mayKeep}
 use Rattle.runs.proofs.Late.{settled-rows}
+use Rattle.runs.proofs.Answers.{votes-in, tallied-in}
 
 abbrev Keeping : ℕ → Type 0
 Keeping n = mayKeep n ≡ true
@@ -60,34 +61,14 @@ Fair s o = (o ≡ refused (o .answer) s) ⊎ Keeping (o .answer)
 
 -- ---- numbers
 
-one-of : (P : ℕ → Type 0) (n x : ℕ) (xs : List ℕ) → P x → (member n xs ≡ true → P n) → member n (x ∷ xs) ≡ true → P n
-unfolding member
-one-of P n x xs h rest e = cases (eqb n x) refl e
-  where
-    cases : (u : Bool) → eqb n x ≡ u → u || member n xs ≡ true → P n
-    cases true q e = rw (eqb-true n x q) h
-    cases false q e = rest e
-
 -- what a vote may be answered with may keep something
 votes-keep : (n : ℕ) → Votes n → Keeping n
 unfolding mayKeep member
-votes-keep n =
-    one-of Keeping n 0 (unknownAuthority ∷ authorityReuse ∷ talliesFull ∷ []) refl
-    (one-of Keeping n unknownAuthority (authorityReuse ∷ talliesFull ∷ []) refl
-    (one-of Keeping n authorityReuse (talliesFull ∷ []) refl (one-of Keeping n talliesFull [] refl (λ z. absurd (true≢false (sym z))))))
-
--- ---- tallies
+votes-keep n v = votes-in Keeping refl refl refl refl n v
 
 timeout-tallied-keeping : (m : List ℕ) (own need : ℕ) (s : State) (round p stake high : ℕ) → Keeping (timeoutTallied m own need s round p stake high .answer)
 unfolding mayKeep member
-timeout-tallied-keeping m own need s round p stake high =
-    rw (timeout-tallied-is m own need s round p stake high) (cases (timeoutsAfter (s .timeouts) round p stake need high) (timeoutAdded (s .timeouts) round p stake need))
-  where
-    cases : (t : List ℕ) (a : Added) → Keeping (afterTimeout m own s round t a .answer)
-    cases t NoRoom = refl
-    cases t Used = refl
-    cases t More = refl
-    cases t (Full i names) = refl
+timeout-tallied-keeping m own need s round p stake high = tallied-in Keeping refl refl refl m own need s round p stake high
 
 -- ---- checks
 

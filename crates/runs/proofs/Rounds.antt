@@ -1,10 +1,11 @@
--- The rounds of what is signed and delivered, from event to event: last voted and last committed are marks that the records of a run move up. Assumes nothing.
+-- The rounds of what is signed and delivered, from stage to stage: last voted and last committed are marks that the records of a course move up. Assumes nothing.
 --     voteMark r, commitMark r         what a record does to last voted, and to last committed
 --     step-voted, step-committed       one event, from a world that counts as started
---     events-started                   after any events the world counts as started
---     events-voted, events-committed   any events
---     Ordered w, events-ordered        the high QC is below the round, and last voted not above it
---     run-starts, origin-started, run-started, run-voted, run-committed, run-ordered    a run
+--     next-core, next-started          what a stage leaves, restart included: the part by value of its event, and a world that counts as started
+--     stages-started                   after any stages the world counts as started
+--     stages-voted, stages-committed   any stages
+--     Ordered w, next-ordered, stages-ordered    the high QC is below the round, and last voted not above it
+--     course-starts, origin-started, origin-ordered, course-started, course-voted, course-committed, course-ordered    a course
 use Prim.Native.Nat.{ℕ, _≤_, _<_}
 use native.Mathlib.Omega.{arith}
 use mathlib.Core.List.{List, [], _∷_, map}
@@ -18,12 +19,14 @@ use Rattle.synchronizer.proofs.WalkLaws.{Rising}
 use Rattle.moves.specs.declared.state.Core.{Core}
 use Rattle.moves.specs.Outcome.{Step}
 use Rattle.replica.specs.Step.{World, Result}
-use Rattle.runs.specs.Runs.{Event, stepOn, worldAfter, outsOf, Run, origin, end, outputs, only, isSigned, isCommit, signedIn, deliveredIn, roundOf, votedOf, committedOf, highOf}
+use Rattle.runs.specs.Courses.{Stage, next, worldAfter, outsOf, Course, origin, end, outputs}
+use Rattle.runs.specs.Runs.{Event, stepOn, only, isSigned, isCommit, signedIn, deliveredIn, roundOf, votedOf, committedOf, highOf}
 use Rattle.runs.proofs.Lists.{only-append}
 use Rattle.runs.proofs.Marks.{Mark, skip, above, reach, Marked, marked-append}
 use Rattle.runs.proofs.Lawful.{votedIn, committedIn, Signs, nothing, ballot, expiry, Delivers}
 use Rattle.runs.proofs.Blocks.{deliveries-rising}
 use Rattle.runs.proofs.Steps.{Started, step-lawful, started-again, Starts, starts, start-started, start-silent}
+use Rattle.runs.proofs.Restart.{leaves-core, leaves-started}
 
 -- a VOTE stands above last voted and becomes it; a TIMEOUT raises it
 abbrev pub voteMark : Rec → Mark
@@ -76,69 +79,86 @@ module _ (w : World) (e : Event) (t : Stake) (s : Started w t) where
   pub step-committed : Marked commitMark (committedOf w) (deliveredIn (stepOn w e .outs)) (committedOf (stepOn w e .world))
   step-committed = delivers-marked (step-lawful w e t s .lawful .delivers)
 
--- ---- any events
+-- ---- one stage
 
-pub events-started : (w : World) (es : List Event) (t : Stake) → Started w t → Started (worldAfter w es) t
+module _ (w : World) (g : Stage) where
+  pub next-core : next w g .state .core ≡ stepOn w (g .event) .world .state .core
+  next-core = leaves-core g (stepOn w (g .event) .world)
+
+  pub next-started : (t : Stake) → Started w t → Started (next w g) t
+  next-started t s = leaves-started g (stepOn w (g .event) .world) t (started-again w (g .event) t s)
+
+-- ---- any stages
+
+pub stages-started : (w : World) (ss : List Stage) (t : Stake) → Started w t → Started (worldAfter w ss) t
 unfolding worldAfter
-events-started w [] t s = s
-events-started w (e ∷ es) t s = events-started (stepOn w e .world) es t (started-again w e t s)
+stages-started w [] t s = s
+stages-started w (g ∷ gs) t s = stages-started (next w g) gs t (next-started w g t s)
 
-pub events-voted : (w : World) (es : List Event) (t : Stake) → Started w t → Marked voteMark (votedOf w) (signedIn (outsOf w es)) (votedOf (worldAfter w es))
+pub stages-voted : (w : World) (ss : List Stage) (t : Stake) → Started w t → Marked voteMark (votedOf w) (signedIn (outsOf w ss)) (votedOf (worldAfter w ss))
 unfolding worldAfter outsOf only Marked
-events-voted w [] t s = refl
-events-voted w (e ∷ es) t s =
-    let u = stepOn w e .world in
-    rw (only-append isSigned (stepOn w e .outs) (outsOf u es))
-    (marked-append voteMark (votedOf w) (votedOf u) (votedOf (worldAfter u es)) (signedIn (stepOn w e .outs)) (signedIn (outsOf u es)) (step-voted w e t s)
-    (events-voted u es t (started-again w e t s)))
+stages-voted w [] t s = refl
+stages-voted w (g ∷ gs) t s =
+    let u = next w g in
+    let e : votedOf (stepOn w (g .event) .world) ≡ votedOf u = ap votedIn (sym (next-core w g)) in
+    rw (only-append isSigned (stepOn w (g .event) .outs) (outsOf u gs))
+    (marked-append voteMark (votedOf w) (votedOf u) (votedOf (worldAfter u gs)) (signedIn (stepOn w (g .event) .outs)) (signedIn (outsOf u gs)) (rw e at (step-voted w (g .event) t s))
+    (stages-voted u gs t (next-started w g t s)))
 
-pub events-committed : (w : World) (es : List Event) (t : Stake) → Started w t → Marked commitMark (committedOf w) (deliveredIn (outsOf w es)) (committedOf (worldAfter w es))
+pub stages-committed : (w : World) (ss : List Stage) (t : Stake) → Started w t → Marked commitMark (committedOf w) (deliveredIn (outsOf w ss)) (committedOf (worldAfter w ss))
 unfolding worldAfter outsOf only Marked
-events-committed w [] t s = refl
-events-committed w (e ∷ es) t s =
-    let u = stepOn w e .world in
-    rw (only-append isCommit (stepOn w e .outs) (outsOf u es))
-    (marked-append commitMark (committedOf w) (committedOf u) (committedOf (worldAfter u es)) (deliveredIn (stepOn w e .outs)) (deliveredIn (outsOf u es)) (step-committed w e t s)
-    (events-committed u es t (started-again w e t s)))
+stages-committed w [] t s = refl
+stages-committed w (g ∷ gs) t s =
+    let u = next w g in
+    let e : committedOf (stepOn w (g .event) .world) ≡ committedOf u = ap committedIn (sym (next-core w g)) in
+    rw (only-append isCommit (stepOn w (g .event) .outs) (outsOf u gs))
+    (marked-append commitMark (committedOf w) (committedOf u) (committedOf (worldAfter u gs)) (deliveredIn (stepOn w (g .event) .outs)) (deliveredIn (outsOf u gs)) (rw e at (step-committed w (g .event) t s))
+    (stages-committed u gs t (next-started w g t s)))
 
 pub record Ordered (w : World) : Type 0 where
   pub high : highOf w < roundOf w
   pub voted : votedOf w ≤ roundOf w
 
-pub events-ordered : (w : World) (es : List Event) (t : Stake) → Started w t → Ordered w → Ordered (worldAfter w es)
+pub next-ordered : (w : World) (g : Stage) (t : Stake) → Started w t → Ordered w → Ordered (next w g)
+next-ordered w g t s h =
+    let k = step-lawful w (g .event) t s .lawful in
+    record { high = rw (next-core w g) (k .below (h .high)); voted = rw (next-core w g) (k .within (h .voted)) }
+
+pub stages-ordered : (w : World) (ss : List Stage) (t : Stake) → Started w t → Ordered w → Ordered (worldAfter w ss)
 unfolding worldAfter
-events-ordered w [] t s h = h
-events-ordered w (e ∷ es) t s h =
-    let k = step-lawful w e t s .lawful in
-    events-ordered (stepOn w e .world) es t (started-again w e t s) (record { high = k .below (h .high); voted = k .within (h .voted) })
+stages-ordered w [] t s h = h
+stages-ordered w (g ∷ gs) t s h = stages-ordered (next w g) gs t (next-started w g t s) (next-ordered w g t s h)
 
--- ---- a run
+-- ---- a course
 
-module _ (r : Run) where
-  pub run-starts : Starts (r .lent) (r .start)
-  run-starts = starts (r .lent) (r .start) (r .begun)
+module _ (r : Course) where
+  pub course-starts : Starts (r .lent) (r .start)
+  course-starts = starts (r .lent) (r .start) (r .begun)
 
-  pub origin-started : Started (origin r) (run-starts .total)
-  origin-started = start-started (r .lent) (r .start) run-starts
+  pub origin-started : Started (origin r) (course-starts .total)
+  origin-started = start-started (r .lent) (r .start) course-starts
 
-  pub run-started : Started (end r) (run-starts .total)
-  run-started = events-started (origin r) (r .events) (run-starts .total) origin-started
+  pub course-started : Started (end r) (course-starts .total)
+  course-started = stages-started (origin r) (r .stages) (course-starts .total) origin-started
 
-  pub run-voted : Marked voteMark 0 (signedIn (outputs r)) (votedOf (end r))
-  run-voted =
-      let v : votedOf (origin r) ≡ 0 = ap (λ (x : Result). votedOf (x .world)) (run-starts .is) in
-      let k = events-voted (origin r) (r .events) (run-starts .total) origin-started in
-      rw (only-append isSigned (stepOn (r .lent) (r .start) .outs) (outsOf (origin r) (r .events)), start-silent (r .lent) (r .start) run-starts .signs) (rw v at k)
+  pub course-voted : Marked voteMark 0 (signedIn (outputs r)) (votedOf (end r))
+  course-voted =
+      let v : votedOf (origin r) ≡ 0 = ap (λ (x : Result). votedOf (x .world)) (course-starts .is) in
+      let k = stages-voted (origin r) (r .stages) (course-starts .total) origin-started in
+      rw (only-append isSigned (stepOn (r .lent) (r .start) .outs) (outsOf (origin r) (r .stages)), start-silent (r .lent) (r .start) course-starts .signs) (rw v at k)
 
-  pub run-committed : Marked commitMark 0 (deliveredIn (outputs r)) (committedOf (end r))
-  run-committed =
-      let v : committedOf (origin r) ≡ 0 = ap (λ (x : Result). committedOf (x .world)) (run-starts .is) in
-      let k = events-committed (origin r) (r .events) (run-starts .total) origin-started in
-      rw (only-append isCommit (stepOn (r .lent) (r .start) .outs) (outsOf (origin r) (r .events)), start-silent (r .lent) (r .start) run-starts .delivers) (rw v at k)
+  pub course-committed : Marked commitMark 0 (deliveredIn (outputs r)) (committedOf (end r))
+  course-committed =
+      let v : committedOf (origin r) ≡ 0 = ap (λ (x : Result). committedOf (x .world)) (course-starts .is) in
+      let k = stages-committed (origin r) (r .stages) (course-starts .total) origin-started in
+      rw (only-append isCommit (stepOn (r .lent) (r .start) .outs) (outsOf (origin r) (r .stages)), start-silent (r .lent) (r .start) course-starts .delivers) (rw v at k)
 
-  pub run-ordered : Ordered (end r)
-  run-ordered =
-      let v : votedOf (origin r) ≡ 0 = ap (λ (x : Result). votedOf (x .world)) (run-starts .is) in
-      let h : highOf (origin r) ≡ 0 = ap (λ (x : Result). highOf (x .world)) (run-starts .is) in
-      let n : roundOf (origin r) ≡ 1 = ap (λ (x : Result). roundOf (x .world)) (run-starts .is) in
-      events-ordered (origin r) (r .events) (run-starts .total) origin-started (record { high = omega arith; voted = omega arith })
+  pub origin-ordered : Ordered (origin r)
+  origin-ordered =
+      let v : votedOf (origin r) ≡ 0 = ap (λ (x : Result). votedOf (x .world)) (course-starts .is) in
+      let h : highOf (origin r) ≡ 0 = ap (λ (x : Result). highOf (x .world)) (course-starts .is) in
+      let n : roundOf (origin r) ≡ 1 = ap (λ (x : Result). roundOf (x .world)) (course-starts .is) in
+      record { high = omega arith; voted = omega arith }
+
+  pub course-ordered : Ordered (end r)
+  course-ordered = stages-ordered (origin r) (r .stages) (course-starts .total) origin-started origin-ordered

@@ -209,7 +209,7 @@ cond-again : (b : Bool) (x y : Setup) (t : Stake) → (x ≡ Total t → y ≡ T
 cond-again true x y t f h = f h
 cond-again false x y t f h = h
 
-stays-started : (seat : Seat) (stakes : List ℕ) (s s′ : State) (t : Stake) → Stays (t .0) s s′ → startedOf seat stakes (s .votes) (s .timeouts) ≡ Total t
+pub stays-started : (seat : Seat) (stakes : List ℕ) (s s′ : State) (t : Stake) → Stays (t .0) s s′ → startedOf seat stakes (s .votes) (s .timeouts) ≡ Total t
     → startedOf seat stakes (s′ .votes) (s′ .timeouts) ≡ Total t
 unfolding startedOf
 stays-started seat stakes s s′ t k h =

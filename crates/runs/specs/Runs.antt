@@ -1,15 +1,7 @@
--- A run of one replica: a START that was taken, and then any events, refused ones too. Each is a step of the definition, from the record and
--- the table that the one before left.
+-- One event of a replica, and the records that are written. What a replica does from its START on is in `Courses`.
 --     Event              the bytes of a record, and the room that is lent for its output
 --     stepOn w e         one event
---     results w es       what each of the events es gives, from the world w on
---     worldAfter w es    the world that they leave
---     outsOf w es        all that they write, in order
 --     Begun w e          the event e is a START that was taken
---     Run                a run; `events` of it are those after START
---     origin r           the world that START left
---     end r              the world that the run leaves
---     outputs r          all that the run writes, in order
 --     Written a rs       the record a stands in the list rs
 --     Behind a b rs      in the list rs the record b stands behind the record a
 --     only p rs          the records of a list that pass the test p, in order
@@ -32,40 +24,12 @@ pub record Event : Type 0 where
 abbrev pub stepOn : World → Event → Result
 stepOn w e = stepped w (e .room) (e .bytes)
 
-unfoldable pub results : World → List Event → List Result
-results w [] = []
-results w (e ∷ es) = stepOn w e ∷ results (stepOn w e .world) es
-
-unfoldable pub worldAfter : World → List Event → World
-worldAfter w [] = w
-worldAfter w (e ∷ es) = worldAfter (stepOn w e .world) es
-
-unfoldable pub outsOf : World → List Event → List Rec
-outsOf w [] = []
-outsOf w (e ∷ es) = stepOn w e .outs ++ outsOf (stepOn w e .world) es
-
--- ---- a run
+-- ---- START
 
 -- START's only answer that is no refusal is 0
 pub record Begun (w : World) (e : Event) : Type 0 where
   pub start : formOf (e .bytes) ≡ Kind.Start
   pub taken : stepOn w e .answer ≡ 0
-
--- `lent` is the memory as it was before START
-pub record Run : Type 0 where
-  pub lent : World
-  pub start : Event
-  pub begun : Begun lent start
-  pub events : List Event
-
-abbrev pub origin : Run → World
-origin r = stepOn (r .lent) (r .start) .world
-
-abbrev pub end : Run → World
-end r = worldAfter (origin r) (r .events)
-
-abbrev pub outputs : Run → List Rec
-outputs r = stepOn (r .lent) (r .start) .outs ++ outsOf (origin r) (r .events)
 
 -- ---- records in a list
 

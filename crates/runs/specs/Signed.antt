@@ -1,12 +1,13 @@
--- The members of one committee: their runs, what each signed, and what the results of signature checks may be trusted for. And certificates laid out as bytes.
+-- The members of one committee: their courses, what each signed, and what the results of signature checks may be trusted for. And certificates laid out as bytes.
 --     qcBytes q                   a QC laid out as a certificate whose result is yes
 --     tcBytes round names highs   a TC likewise
 --     GoodQC m q                  laid out so, it is accepted by the committee m inside a block or a timeout
 --     GoodTC m round names highs  .. and a TC
 --     Sends m a                   the certificates in the record a are good
---     Members                     the stakes, who breaks the rules, and one run for each of the others
---     Obeys M p                   place p is none of those who break the rules
+--     Members                     the stakes, who breaks the rules, and one course for each of the others
+--     Sits M p                    place p is a member that obeys the rules
 --     Signed M p h n              p signed a vote for the hash h and the round n
+--     Expired M p t h             p signed a timeout of round t with a high QC of round h
 --     TrueResult M part           the result of a vote certificate is true
 --     Certificate M h n           a vote certificate other than genesis, for the hash h and the round n, accepted and with a true result
 use Prim.Native.Nat.{ℕ, _*_, _≤_, _<_}
@@ -26,7 +27,8 @@ use Rattle.certificates.specs.Messages.{qcForm, placesIn, tcCheck, equalsGenesi
 use Rattle.outputs.specs.Fields.{number, hash, bytesOf}
 use Rattle.outputs.specs.Records.{Rec, vote, timeout, tc, make, makeWith, commit, sync, cleanProposer, cleanMempool, timerReset, answer, placesOf, entries}
 use Rattle.replica.specs.Step.{committee}
-use Rattle.runs.specs.Runs.{Run, origin, outputs, Written}
+use Rattle.runs.specs.Runs.{Written}
+use Rattle.runs.specs.Courses.{Course, origin, outputs}
 
 -- ---- certificates as bytes
 
@@ -62,27 +64,34 @@ Sends m (answer n) = Unit {0}
 
 -- ---- the members
 
--- "rule-breakers hold at most a third of the stake, and every other member votes only through one run never restarted": `breakers` is a set of places,
--- and `run p` is looked at only for a p that is not in it. Such a run begins with one START, of this committee and at that place.
+-- "rule-breakers hold at most a third", "all others vote through one run", which is restarted only by W3; `breakers` is a set of places, and `course p` is looked at only
+-- for a p that is not in it. It begins with a START of this committee and at that place.
 pub record Members : Type 0 where
   pub stakes : List ℕ
   pub breakers : List ℕ
-  pub run : ℕ → Run
+  pub course : ℕ → Course
   pub few : 3 * stakeIn stakes breakers ≤ sum stakes
-  pub same : (p : ℕ) → p < length stakes → isIn breakers p ≡ 0 → committee (origin (run p)) ≡ stakes
-  pub seated : (p : ℕ) → p < length stakes → isIn breakers p ≡ 0 → origin (run p) .seat .own .0 ≡ p
+  pub same : (p : ℕ) → p < length stakes → isIn breakers p ≡ 0 → committee (origin (course p)) ≡ stakes
+  pub seated : (p : ℕ) → p < length stakes → isIn breakers p ≡ 0 → origin (course p) .seat .own .0 ≡ p
 
-abbrev pub Obeys : Members → ℕ → Type 0
-Obeys M p = isIn (M .breakers) p ≡ 0
+pub record Sits (M : Members) (p : ℕ) : Type 0 where
+  pub member : p < length (M .stakes)
+  pub obeys : isIn (M .breakers) p ≡ 0
 
--- a VOTE for this hash and round stands among the outputs of its run, whoever it goes to
+-- a VOTE for this hash and round stands among what p wrote, whoever it goes to
 pub record Signed (M : Members) (p : ℕ) (h : Hash) (n : ℕ) : Type 0 where
   pub to : ℕ
-  pub written : Written (vote to h n) (outputs (M .run p))
+  pub written : Written (vote to h n) (outputs (M .course p))
+
+-- a timeout signs its round and the round of its high QC, not the hash
+pub record Expired (M : Members) (p t h : ℕ) : Type 0 where
+  pub high : QC
+  pub is : high .round .0 ≡ h
+  pub written : Written (timeout t high) (outputs (M .course p))
 
 -- "signature results are true": whoever is named and obeys signed this hash and round
 abbrev pub TrueResult : Members → List ℕ → Type 0
-TrueResult M part = (p : ℕ) → member p (placesIn qcForm part) ≡ true → Obeys M p → Signed M p (hashAt part 0) (numAt 8 part 32)
+TrueResult M part = (p : ℕ) → Sits M p → member p (placesIn qcForm part) ≡ true → Signed M p (hashAt part 0) (numAt 8 part 32)
 
 -- "accepted vote certificates"
 pub record Certificate (M : Members) (h : Hash) (n : ℕ) : Type 0 where

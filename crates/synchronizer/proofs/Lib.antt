@@ -3,6 +3,7 @@ pub mod Cases
 pub mod ChainLaws
 pub mod KeptLaws
 pub mod Lent
+pub mod Lookups
 pub mod Row
 pub mod SettleLaws
 pub mod TableLaws
