@@ -12,6 +12,7 @@ pub mod Tallied
 pub mod Certificates
 pub mod Kept
 pub mod Handled
+pub mod Results
 pub mod Invariant
 pub mod OneDigest
 pub mod Example
