@@ -2,8 +2,7 @@
 --     places-bits, places-distinct      the places of a word: who is in, and that none is named twice
 --     qc-places, tc-places              a certificate's list, read back from its bytes
 --     quorate-qc, quorate-tc            a quorum of members with stake is accepted
---     Backed m q                        a QC is genesis, or a quorum of members with stake backs it
---     backed-good, quorate-good         .. so it is accepted inside a block or a timeout; and a TC
+--     genesis-good, quorate-good        .. inside a block or a timeout; and so is genesis
 use Prim.Native.Nat.{ℕ, zero, suc, _+_, _-_, _*_, _/_, _%_, _^_, _≤_, _<_}
 use mathlib.Core.Bool.{Bool, true, false, cond}
 use mathlib.Core.List.{List, [], _∷_, _++_, map, append-assoc}
@@ -288,20 +287,17 @@ module _ (m : List ℕ) where
       (accepted-bytes tcForm m s k (digits 8 round) (bytesOf (entries ps highs)) refl (length-digits 8 round) (entries-length ps highs)
       (tc-places-at highs ps (digits 8 round ++ (digits 1 1 ++ digits 2 (count s))) (three-more (digits 8 round) (count s) (length-digits 8 round)) (places-small (s .0))))
 
-  -- ---- a QC that is genesis, or backed
-
-  pub data Backed (q : QC) : Type 0 where
-    first : q ≡ newCore .«high_qc» → Backed q
-    quorate : Quorate m (q .signers) → Backed q
+  -- ---- inside a block or a timeout
 
   genesis-bytes : equalsGenesis (qcBytes (newCore .«high_qc»)) ≡ true
   unfolding equalsGenesis isGenesis hashAt numAt le qcBytes bytesOf digits hashBytes placesOf placesFrom
   genesis-bytes = refl
 
-  -- inside a block or a timeout it is accepted
-  pub backed-good : (q : QC) → Backed q → GoodQC m q
-  backed-good q (first e) = rw (e, genesis-bytes) (genesis-accepted m (quorumOf m) (qcBytes (newCore .«high_qc»)) genesis-bytes)
-  backed-good q (quorate k) = cases (equalsGenesis (qcBytes q)) refl
+  pub genesis-good : GoodQC m (newCore .«high_qc»)
+  genesis-good = rw genesis-bytes (genesis-accepted m (quorumOf m) (qcBytes (newCore .«high_qc»)) genesis-bytes)
+
+  pub quorate-good : (q : QC) → Quorate m (q .signers) → GoodQC m q
+  quorate-good q k = cases (equalsGenesis (qcBytes q)) refl
     where
       cases : (b : Bool) → equalsGenesis (qcBytes q) ≡ b → GoodQC m q
       cases true e = rw e (genesis-accepted m (quorumOf m) (qcBytes q) e)

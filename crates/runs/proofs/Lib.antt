@@ -13,6 +13,7 @@ pub mod Tallied
 pub mod Certificates
 pub mod Kept
 pub mod Handled
+pub mod Results
 pub mod Invariant
 pub mod Time
 pub mod CourseLives

@@ -1,17 +1,18 @@
 -- Tallies of a committee m: what they hold, and what they give out. Assumes nothing.
 --     Quorate m s              the signers s are members with stake, and their stake reaches the quorum
 --     Counts m names weight    what holds of a tally in use: its names, and its weight
---     Tallied m t              .. of the tally t
+--     Tallied m by t           .. of the tally t, each name of which is that of a place p with `by t p`
 --     tallied-new              a new tally
 --     tallied-more             one more author
 --     counts-full              what a tally gives out is a quorum of members with stake
+--     filled-quorate, filled-signed     .. of a tally in its table: a quorum, each of whom has `by`
 --     counts-once              it gives out one certificate and no other
 --     counts-light, tallied-light     no tally is heavier than the total
 use Prim.Native.Nat.{ℕ, _+_, _/_, _%_, _^_, _≤_, _<_}
 use mathlib.Core.Bool.{Bool, true, false, cond}
 use mathlib.Core.List.{List}
-use mathlib.Core.Logic.{_≢_, by-cases}
-use mathlib.Core.Path.{_≡_, refl, sym, _∙_}
+use mathlib.Core.Logic.{_≢_, by-cases, _⊎_, inl, inr}
+use mathlib.Core.Path.{_≡_, refl, sym, ap, _∙_}
 use native.Mathlib.Decide.{ℕ-discrete}
 use native.Mathlib.Omega.{arith}
 use borrow.Author.Tests.{ltb-true, ltb-false, eqb-false}
@@ -26,10 +27,12 @@ use Rattle.certificates.specs.Signers.{isIn, words}
 use Rattle.certificates.proofs.ConfigLaws.{quorum-pos}
 use Rattle.certificates.proofs.Check.{Known}
 use Rattle.certificates.proofs.SignersLaws.{signer-none, signer-bit, signer-other, weight-none, weight-with, weight-le}
-use Rattle.aggregator.specs.Tally.{fields, weightOf, namesOf, hasName, withName, signers, withAuthor}
+use Rattle.aggregator.specs.Rows.{row}
+use Rattle.aggregator.specs.Tally.{fields, usedOf, weightOf, namesOf, hasName, withName, signers, withAuthor}
 use Rattle.aggregator.specs.Tallies.{Light}
 use Rattle.aggregator.proofs.TallyLaws.{Kind, author-names, author-weight}
 use Rattle.aggregator.proofs.TableLaws.{Each}
+use Rattle.aggregator.proofs.Additions.{Filled, counted-passes}
 
 -- members with stake whose stake reaches the quorum
 pub record Quorate (m : List ℕ) (s : Signers) : Type 0 where
@@ -50,8 +53,9 @@ pub record Counts (m : List ℕ) (names weight : ℕ) : Type 0 where
   -- from the quorum on it is the stake of those only that came after its certificate
   pub spent : quorumOf m ≤ held m names → weight + quorumOf m ≤ held m names
 
-abbrev pub Tallied : List ℕ → List ℕ → Type 0
-Tallied m t = Counts m (namesOf t) (weightOf t)
+pub record Tallied (m : List ℕ) (by : List ℕ → ℕ → Type 0) (t : List ℕ) : Type 0 where
+  pub counts : Counts m (namesOf t) (weightOf t)
+  pub signed : (p : ℕ) → isIn (words (signers (namesOf t))) p ≡ 1 → by t p
 
 counts-none : (m : List ℕ) → Counts m 0 0
 unfolding quorumOf
@@ -64,8 +68,8 @@ counts-none m =
       spent = λ h. absurd (omega (arith, none, h, quorum-pos (sum m)));
     }
 
-pub tallied-new : (m t : List ℕ) → weightOf t ≡ 0 → namesOf t ≡ 0 → Tallied m t
-tallied-new m t w n = rw (w, n) (counts-none m)
+pub tallied-new : (m : List ℕ) (by : List ℕ → ℕ → Type 0) (t : List ℕ) → weightOf t ≡ 0 → namesOf t ≡ 0 → Tallied m by t
+tallied-new m by t w n = record { counts = rw (w, n) (counts-none m); signed = λ p e. absurd (omega (arith, signer-none p, rw n at e)) }
 
 module _ (m : List ℕ) {names weight : ℕ} (k : Counts m names weight) where
   counts-within : weight ≤ held m names
@@ -127,12 +131,34 @@ module _ (m : List ℕ) {names weight : ℕ} (k : Counts m names weight) where
             }
 
 -- one more author
-pub tallied-more : (m : List ℕ) {test : List ℕ → Bool} {new : List ℕ} {mark : List ℕ → List ℕ} {w : ℕ} → Kind test new mark w → (p : ℕ) → Known m p → (t : List ℕ) → length t ≡ w
-    → Tallied m t → hasName (namesOf t) p ≡ false → Tallied m (withAuthor mark t p (stakeOf m p) (quorumOf m))
-tallied-more m k p who t l h fresh =
-    let wide : fields ≤ length t = omega (arith, k .wide, l) in
-    rw (author-names (k .marks) t p (stakeOf m p) (quorumOf m) wide, author-weight (k .marks) t p (stakeOf m p) (quorumOf m) wide) (counts-more m h p who fresh)
+module _ (m : List ℕ) (by : List ℕ → ℕ → Type 0) {test : List ℕ → Bool} {new : List ℕ} {mark : List ℕ → List ℕ} {w : ℕ} (k : Kind test new mark w) (p : ℕ) (who : Known m p) where
+  pub tallied-more : (t : List ℕ) → length t ≡ w → Tallied m by t → hasName (namesOf t) p ≡ false → let u = withAuthor mark t p (stakeOf m p) (quorumOf m) in
+      by u p → ((q : ℕ) → q ≢ p → by t q → by u q) → Tallied m by u
+  tallied-more t l h fresh mine theirs =
+      let wide : fields ≤ length t = omega (arith, k .wide, l) in
+      let names = author-names (k .marks) t p (stakeOf m p) (quorumOf m) wide in
+      record {
+        counts = rw (names, author-weight (k .marks) t p (stakeOf m p) (quorumOf m) wide) (counts-more m (h .counts) p who fresh);
+        signed = λ q e.
+            let e′ : isIn (words (signers (withName (namesOf t) p))) q ≡ 1 = rw names at e in
+            by-cases (ℕ-discrete q p) (λ z. rw z mine) (λ n. theirs q n (h .signed q (sym (signer-other (signers (namesOf t)) p (who .small) q n) ∙ e′)));
+      }
+
+  module _ {n : ℕ} {v v′ : List ℕ} {i : ℕ} {s : Signers} (f : Filled test new mark w n v p (stakeOf m p) (quorumOf m) i s v′) where
+    -- a quorum's tally was there, or is new; either way the signers that it gives out are a quorum of members with stake
+    pub filled-quorate : Each (Tallied m by) w n v → Quorate m s
+    filled-quorate all =
+        let same : s ≡ signers (withName (namesOf (f .tally)) p) = ap signers (f .names) in
+        rw same (counts-full m (stood (f .counted .stood)) p who (f .counted .fresh) (f .reached))
+      where
+        stood : (row w v i ≡ f .tally) ⊎ ((usedOf (row w v i) ≡ 0) × (f .tally ≡ new)) → Counts m (namesOf (f .tally)) (weightOf (f .tally))
+        stood (inl a) = rw (← a) (all .at i (f .counted .below) (k .used (row w v i) (rw a (f .counted .passes))) .counts)
+        stood (inr a) = rw (a .1) (tallied-new m by new (k .weight) (k .names) .counts)
+
+    -- and they are the names of the tally that is left
+    pub filled-signed : Each (Tallied m by) w n v′ → (q : ℕ) → isIn (words s) q ≡ 1 → by (row w v′ i) q
+    filled-signed all q e = all .at i (f .counted .below) (k .used (row w v′ i) (counted-passes k (f .counted))) .signed q (rw (f .word) at e)
 
 -- no tally in use is heavier than the total
-pub tallied-light : (m : List ℕ) (w n : ℕ) (v : List ℕ) → Each (Tallied m) w n v → Light w n v (sum m)
-tallied-light m w n v e = record { weight = λ i b u. counts-light m (e .at i b u) }
+pub tallied-light : (m : List ℕ) (by : List ℕ → ℕ → Type 0) (w n : ℕ) (v : List ℕ) → Each (Tallied m by) w n v → Light w n v (sum m)
+tallied-light m by w n v e = record { weight = λ i b u. counts-light m (e .at i b u .counts) }
