@@ -7,7 +7,7 @@ use Prim.Native.Nat.{ℕ, _≤_}
 use mathlib.Core.Bool.{Bool, true, false, cond, _||_, true≢false}
 use mathlib.Core.List.{List, [], _∷_}
 use mathlib.Core.Logic.{_⊎_, inl, inr, ⊎-elim}
-use mathlib.Core.Path.{_≡_, refl, sym, ap, _∙_}
+use mathlib.Core.Path.{_≡_, refl, sym, ap, _∙_, subst}
 use native.Mathlib.Omega.{arith}
 use borrow.Author.Tests.{eqb-true, eqb-false}
 use lib.Dec.{eqb, ltb}
@@ -52,8 +52,7 @@ use Rattle.replica.proofs.StartedLaws.{started-ready}
 use Rattle.runs.specs.Runs.{Event, stepOn, committedOf}
 use Rattle.runs.specs.Passed.{Waits, Passed}
 use Rattle.runs.proofs.Late.{by-table}
-use Rattle.runs.proofs.Steps.{Started}
-use Rattle.runs.proofs.Brings.{Gives, roomless, limited, gives, step-is}
+use Rattle.runs.proofs.Steps.{Started, Gives, roomless, limited, gives, step-is}
 
 module _ (P : ℕ → Type 0) where
   in-cond : (b : Bool) (x y : ℕ) → P x → P y → P (cond b x y)
@@ -257,7 +256,8 @@ module _ (w : World) (r : List ℕ) where
       let s = w .state in
       checked-in Elsewhere elsewhere (cond (ltb (v .round .0) (s .core .round .0)) stale (authorNumber (authorCheck m (v .author .0) (v .verdict)))) s _
       (in-cond Elsewhere (ltb (v .round .0) (s .core .round .0)) stale _ refl (author-in Elsewhere elsewhere (authorCheck m (v .author .0) (v .verdict))))
-      (votes-elsewhere _ (tallied-votes m own (quorumOf m) s (v .hash) (v .round .0) (v .author .0) (stakeOf m (v .author .0))))
+      (votes-elsewhere (voteTallied m own (quorumOf m) s (v .hash) (v .round .0) (v .author .0) (stakeOf m (v .author .0)) .answer)
+      (tallied-votes m own (quorumOf m) s (v .hash) (v .round .0) (v .author .0) (stakeOf m (v .author .0))))
 
   timeout-elsewhere : Elsewhere (handled w r Kind.Timeout .answer)
   unfolding handledTimeout timeoutWith timeoutTaken timeoutCheck member
@@ -267,7 +267,7 @@ module _ (w : World) (r : List ℕ) where
       let c = embeddedCheck m (quorumOf m) (qcPart r timeoutQC) in
       let a = authorNumber (authorCheck m (t .author .0) (t .verdict)) in
       checked-in Elsewhere elsewhere (first (cond (ltb (t .round .0) (s .core .round .0)) stale a) (numberOf c qcRequiresQuorum)) s (timeoutTaken m own s t (signersOf c))
-      (first-in Elsewhere elsewhere _ _
+      (first-in Elsewhere elsewhere (cond (ltb (t .round .0) (s .core .round .0)) stale a) (numberOf c qcRequiresQuorum)
       (in-cond Elsewhere (ltb (t .round .0) (s .core .round .0)) stale a refl (author-in Elsewhere elsewhere (authorCheck m (t .author .0) (t .verdict))))
       (number-in Elsewhere elsewhere c qcRequiresQuorum refl))
       (tallied-elsewhere m own _ (t .round .0) (t .author .0) (stakeOf m (t .author .0)) (t .«qc_round» .0))
@@ -279,7 +279,7 @@ module _ (w : World) (r : List ℕ) where
       let round = tcRound r tcBody in
       let c = tcCheck m (quorumOf m) (tcPart r tcBody) in
       checked-in Elsewhere elsewhere (first (numberOf c tcRequiresQuorum) (staleIf round (s .core .round .0))) s (done 0 (tcTaken m own s round (signersOf c) (tcPart r tcBody)))
-      (first-in Elsewhere elsewhere _ _ (number-in Elsewhere elsewhere c tcRequiresQuorum refl) (in-cond Elsewhere (ltb round (s .core .round .0)) stale 0 refl refl))
+      (first-in Elsewhere elsewhere (numberOf c tcRequiresQuorum) (staleIf round (s .core .round .0)) (number-in Elsewhere elsewhere c tcRequiresQuorum refl) (in-cond Elsewhere (ltb round (s .core .round .0)) stale 0 refl refl))
       refl
 
   tick-elsewhere : Elsewhere (handled w r Kind.Tick .answer)
@@ -296,7 +296,11 @@ module _ (w : World) (e : Event) (t : Stake) (s : Started w t) (n : ℕ) (is : (
 
   stops : (k : ℕ) → k ≡ n → Elsewhere k → ⊥
   unfolding member
-  stops k f h = ⊎-elim (λ i. true≢false (rw (f, i) at h)) (λ i. true≢false (rw (f, i) at h)) is
+  stops k f h =
+      ⊎-elim
+      (λ (i : n ≡ ancestorAbsent). let x : Elsewhere ancestorAbsent = subst Elsewhere (f ∙ i) h in true≢false x)
+      (λ (i : n ≡ roundNotBelow). let x : Elsewhere roundNotBelow = subst Elsewhere (f ∙ i) h in true≢false x)
+      is
 
   -- a block that was treated: the number is the table's
   treated : (u : State) → u .core .«last_committed_round» ≡ w .state .core .«last_committed_round» → processed (committee w) (w .seat .own .0) (w .table) b u .answer ≡ n

@@ -1,5 +1,4 @@
 -- What an event gives, by its kind, from a world that counts as started; w is the world before the event e, `stepOn w e` what it gives. Assumes nothing.
---     Gives w e k x, step-is  an event is refused for want of room or by a limit, or gives what its kind k says
 --     Brings w e, brings      a VOTE, a COMMIT and a stored block come from a PROPOSE that passes its checks, or from a LOOPBACK
 --     passed-high             after a PROPOSE that passes its checks the high QC is not below the block's QC, also where it waits (2, 3)
 --     passed-qc, passed-tc    its QC and its TC were accepted
@@ -40,46 +39,18 @@ use Rattle.handlers.specs.Proposals.{qcFound, tcNumber, proposalCheck, taken, b
 use Rattle.handlers.proofs.ProposalTheorems.{checks-passed, proposal-takes, proposal-refused, advanced-tc-keeps, certificates-keep}
 use Rattle.replica.specs.Started.{roomy}
 use Rattle.replica.specs.Blocks.{processed, goingOn, goingOnTable}
-use Rattle.replica.specs.Step.{World, Result, refusedIn, committee, handled, started, onOther, onKind, stepped}
+use Rattle.replica.specs.Step.{World, Result, refusedIn, committee, handled, stepped}
 use Rattle.replica.proofs.StartedLaws.{Ready, started-ready}
 use Rattle.runs.specs.Runs.{Event, stepOn, Written, only, isSigned, signedIn, deliveredIn, highOf}
 use Rattle.runs.specs.Passed.{Passed}
 use Rattle.runs.proofs.Lists.{written-only, written-none, written-one}
 use Rattle.runs.proofs.Plain.{highIn, Silent, plain-vote, plain-timeout, plain-tc, plain-own-timeout}
 use Rattle.runs.proofs.Blocks.{taken-high, treats-processed}
-use Rattle.runs.proofs.Steps.{Started}
+use Rattle.runs.proofs.Steps.{Started, Gives, roomless, limited, gives, step-is}
 
--- ---- an event is refused, or gives what its kind says
-
--- it is refused for want of room, or by a limit, or gives what its kind says
-pub data Gives (w : World) (e : Event) (k : Kind) (x : Result) : Type 0 where
-  roomless : x ≡ refusedIn noRoom w → Gives w e k x
-  limited : x ≡ refusedIn (limitOf (e .bytes) k) w → Gives w e k x
-  gives : x ≡ handled w (e .bytes) k → Gives w e k x
+-- ---- an event that passes its checks
 
 module _ (w : World) (e : Event) (t : Stake) (s : Started w t) where
-  by-tests : (k : Kind) (a b : Bool) → Gives w e k (cond a (cond b (handled w (e .bytes) k) (refusedIn (limitOf (e .bytes) k) w)) (refusedIn noRoom w))
-  by-tests k true true = gives refl
-  by-tests k true false = limited refl
-  by-tests k false b = roomless refl
-
-  by-other : (k : Kind) → Gives w e k (onOther w (e .room) (e .bytes) k (started w))
-  by-other k = rw s (by-tests k (roomy (length (w .table)) (e .room)) (eqb (limitOf (e .bytes) k) 0))
-
-  by-kind : (k : Kind) → Gives w e k (onKind w (e .room) (e .bytes) k)
-  by-kind Kind.Bad = gives refl
-  by-kind Kind.Start = rw s (gives refl)
-  by-kind Kind.Propose = by-other Kind.Propose
-  by-kind Kind.Vote = by-other Kind.Vote
-  by-kind Kind.Timeout = by-other Kind.Timeout
-  by-kind Kind.Tc = by-other Kind.Tc
-  by-kind Kind.Loopback = by-other Kind.Loopback
-  by-kind Kind.Tick = by-other Kind.Tick
-
-  pub step-is : Gives w e (formOf (e .bytes)) (stepOn w e)
-  unfolding stepped
-  step-is = by-kind (formOf (e .bytes))
-
   pub passed-is : Passed w e → stepOn w e ≡ handled w (e .bytes) Kind.Propose
   unfolding stepped
   passed-is p = rw (p .kind, s, p .room, p .limits) refl

@@ -58,6 +58,7 @@ use Rattle.handlers.proofs.HandlerLaws.{first-both}
 use Rattle.handlers.proofs.ProposalTheorems.{checks-passed, proposal-takes, proposal-refused}
 use Rattle.replica.specs.Blocks.{workFor, settledFor, settledStep, afterSettled, processed, goingOn}
 use Rattle.runs.specs.Runs.{Written}
+use Rattle.runs.proofs.Lists.{written-behind}
 use Rattle.runs.proofs.Tallied.{Quorate}
 use Rattle.runs.proofs.Certificates.{signers-word}
 use Rattle.runs.proofs.Kept.{Signatures, Every, none, more, every-append, Backs, Closes, Backed, backed, backed-good, backed-backs, Kept, Writes, Good, Begins, MayTake, good-quiet, begins-good, good-then, begins-quiet, begins-then, kept-core, begins-advanced, begins-taken, writes-make-with, good-vote, good-timeout}
@@ -74,9 +75,6 @@ module _ (g : Signatures) where
   pub record Mine (own : ℕ) (outs : List Rec) : Type 0 where
     pub votes : (to n : ℕ) (h : Hash) → Written (vote to h n) outs → g .votes own h n
     pub expires : (u : ℕ) (q : QC) → Written (timeout u q) outs → g .expires own u (q .round .0)
-
-pub written-behind : {a : Rec} (xs : List Rec) {ys : List Rec} → Written a ys → Written a (xs ++ ys)
-written-behind {a} xs w = record { before = xs ++ w .before; rest = w .rest; is = ap (λ (l : List Rec). xs ++ l) (w .is) ∙ sym (append-assoc xs (w .before) (a ∷ w .rest)) }
 
 mine-behind : (g : Signatures) (own : ℕ) (xs : List Rec) {ys : List Rec} → Mine g own (xs ++ ys) → Mine g own ys
 mine-behind g own xs k = record { votes = λ to n h w. k .votes to n h (written-behind xs w); expires = λ u q w. k .expires u q (written-behind xs w) }

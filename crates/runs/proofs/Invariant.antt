@@ -1,16 +1,17 @@
--- The invariant of a run, from START on: true after a START that was taken, kept by every step, so true all along. It asks nothing of the results of signature checks
+-- The invariant of a course, from START on: true after a START that was taken, kept by every step, so true all along. It asks nothing of the results of signature checks
 -- (`unknown`). Assumes nothing.
---     Invariant seat stakes w     what holds of the world w in a run whose START left this seat and these stakes
+--     Invariant seat stakes w     what holds of the world w in a course whose START left this seat and these stakes
 --     Well seat stakes x          a step's result: the invariant holds after it, and the certificates that it writes pass the check
 --     invariant-started           a world with the invariant counts as started, so no second START is taken
 --     invariant-start             .. after a START that was taken
 --     invariant-step              .. after every step from such a world
---     invariant-run               .. after every event of a run
+--     invariant-next              .. after every stage, restart included
+--     invariant-course            .. of the world that a course leaves
 --     high-signers                the high QC's signers are members
---     run-certificates            all certificates that a run writes pass the check
+--     course-certificates         all certificates that a course writes pass the check
 --     made-qc-accepted, made-tc-accepted     those that its tallies make, at the moment they are made
 use Prim.Native.Nat.{ℕ, _<_}
-use mathlib.Core.Bool.{true, false}
+use mathlib.Core.Bool.{Bool, true, false, cond}
 use mathlib.Core.List.{List, [], _∷_}
 use mathlib.Core.Path.{_≡_, refl, sym, _∙_}
 use native.Mathlib.Omega.{arith}
@@ -41,12 +42,13 @@ use Rattle.replica.specs.declared.started.Seat.{Seat}
 use Rattle.replica.specs.Started.{membersOf, shaped, lightIn, startedOf}
 use Rattle.replica.specs.Step.{World, Result, newSeat, newStakes, committee, started}
 use Rattle.replica.proofs.StartedLaws.{sized-all, shaped-all}
-use Rattle.runs.specs.Runs.{Event, stepOn, worldAfter, outsOf, Begun, Run, origin, end, outputs, Written}
+use Rattle.runs.specs.Runs.{Event, stepOn, Begun, Written}
+use Rattle.runs.specs.Courses.{Stage, putBack, next, worldAfter, outsOf, Course, origin, end, outputs}
 use Rattle.runs.specs.Signed.{Sends, GoodTC, qcBytes}
 use Rattle.runs.proofs.Steps.{step-lawful, starts}
 use Rattle.runs.proofs.Tallied.{Tallied, tallied-light}
 use Rattle.runs.proofs.Certificates.{quorate-qc, quorate-tc}
-use Rattle.runs.proofs.Kept.{Signatures, unknown, VotesIn, ExpiresIn, Every, none, every-append, every-map, every-written, Backed, first, backed, Kept, kept-new, writes-announced, vote-quorate, timeout-quorate}
+use Rattle.runs.proofs.Kept.{Signatures, unknown, VotesIn, ExpiresIn, Every, none, every-append, every-map, every-written, Backed, first, backed, Kept, kept-new, kept-emptied, writes-announced, vote-quorate, timeout-quorate}
 use Rattle.runs.proofs.Results.{good-any}
 
 pub record Invariant (seat : Seat) (stakes : List ℕ) (w : World) : Type 0 where
@@ -129,19 +131,35 @@ module _ {seat : Seat} {stakes : List ℕ} where
         outs = every-map (λ r h. h .sends) (a .outs);
       }
 
-  invariant-events : (w : World) → Invariant seat stakes w → (es : List Event) → Invariant seat stakes (worldAfter w es)
+  back-by : (b : Bool) (w : World) → Invariant seat stakes w → Invariant seat stakes (cond b (putBack w) w)
+  back-by true w i =
+      record {
+        seated = i .seated;
+        staked = i .staked;
+        shape = i .shape;
+        total = i .total;
+        setup = i .setup;
+        state = kept-emptied (membersOf seat stakes) unknown (i .state);
+      }
+  back-by false w i = i
+
+  -- A restart keeps it too.
+  pub invariant-next : (w : World) → Invariant seat stakes w → (g : Stage) → Invariant seat stakes (next w g)
+  invariant-next w i g = back-by (g .cut) (stepOn w (g .event) .world) (invariant-step w i (g .event) .world)
+
+  invariant-stages : (w : World) → Invariant seat stakes w → (ss : List Stage) → Invariant seat stakes (worldAfter w ss)
   unfolding worldAfter
-  invariant-events w i [] = i
-  invariant-events w i (e ∷ es) = invariant-events (stepOn w e .world) (invariant-step w i e .world) es
+  invariant-stages w i [] = i
+  invariant-stages w i (g ∷ gs) = invariant-stages (next w g) (invariant-next w i g) gs
 
-  outs-events : (w : World) → Invariant seat stakes w → (es : List Event) → Every (Sends (membersOf seat stakes)) (outsOf w es)
+  outs-stages : (w : World) → Invariant seat stakes w → (ss : List Stage) → Every (Sends (membersOf seat stakes)) (outsOf w ss)
   unfolding outsOf
-  outs-events w i [] = none
-  outs-events w i (e ∷ es) = every-append (invariant-step w i e .outs) (outs-events (stepOn w e .world) (invariant-step w i e .world) es)
+  outs-stages w i [] = none
+  outs-stages w i (g ∷ gs) = every-append (invariant-step w i (g .event) .outs) (outs-stages (next w g) (invariant-next w i g) gs)
 
--- ---- runs
+-- ---- courses
 
-module _ (r : Run) where
+module _ (r : Course) where
   -- the committee that START left
   abbrev pub committeeOf : List ℕ
   committeeOf = committee (origin r)
@@ -149,21 +167,22 @@ module _ (r : Run) where
   start-well : Well (origin r .seat) (origin r .stakes) (stepOn (r .lent) (r .start))
   start-well = let h = invariant-start (r .lent) (r .start) (r .begun) in rw (← h .world .seated, ← h .world .staked) at h
 
-  -- The invariant holds of the world that a run leaves, with the seat and the stakes that START left; a run cut short is a run, so it holds all along.
-  pub invariant-run : Invariant (origin r .seat) (origin r .stakes) (end r)
-  invariant-run = invariant-events (origin r) (start-well .world) (r .events)
+  -- The invariant holds of the world that a course leaves, with the seat and the stakes that START left. A course as far as any of its stages is a course, so it holds
+  -- all along.
+  pub invariant-course : Invariant (origin r .seat) (origin r .stakes) (end r)
+  invariant-course = invariant-stages (origin r) (start-well .world) (r .stages)
 
-  -- The signers of the high QC that a run leaves are members of its committee.
+  -- The signers of the high QC that a course leaves are members of its committee.
   pub high-signers : (p : ℕ) → isIn (words (end r .state .core .«high_qc» .signers)) p ≡ 1 → p < length (committee (origin r))
-  high-signers p h = cases (invariant-run .state .high)
+  high-signers p h = cases (invariant-course .state .high)
     where
       cases : Backed (committee (origin r)) unknown (end r .state .core .«high_qc») → p < length (committee (origin r))
       cases (first e) = absurd (omega (arith, signer-none p, rw e at h))
       cases (backed q s) = stake-member (committee (origin r)) p (q .members p h .stake)
 
-  -- Every QC and every TC that a run writes, laid out as a certificate with the result yes, passes the check of every replica of its committee.
-  pub run-certificates : {a : Rec} → Written a (outputs r) → Sends (committee (origin r)) a
-  run-certificates = every-written (Sends (committee (origin r))) (every-append (start-well .outs) (outs-events (origin r) (start-well .world) (r .events)))
+  -- Every QC and every TC that a course writes, laid out as a certificate with the result yes, passes the check of every replica of its committee.
+  pub course-certificates : {a : Rec} → Written a (outputs r) → Sends (committee (origin r)) a
+  course-certificates = every-written (Sends (committee (origin r))) (every-append (start-well .outs) (outs-stages (origin r) (start-well .world) (r .stages)))
 
 -- ---- what tallies make
 

@@ -1,37 +1,32 @@
 -- One event is `Good`, from a world that counts as started and a state that is `Kept`, where the results that come with it are true and what it signs counts as signed.
 -- w is the world before the event e, g what is known of who signed. Assumes nothing.
 --     SureEvent g e                the results that come with the event are true
---     step-is                      an event is refused by the room or a limit, or gives what its kind says
 --     good-step                    every event
 --     good-any                     every event, whatever the results are
 --     make-high, make-with-high    L4: MAKE's QC is the high QC after the event, and its TC has a quorum; no premise on results
 use Prim.Native.Nat.{ℕ, zero, suc, _≤_}
 use mathlib.Core.Bool.{Bool, true, false, cond}
 use mathlib.Core.List.{List, _∷_}
-use mathlib.Core.Logic.{_⊎_, inl, inr, ⊎-elim}
 use mathlib.Core.Path.{_≡_, refl, _∙_}
 use native.Mathlib.Omega.{arith}
 use borrow.Author.Tests.{ltb-false}
-use lib.Dec.{eqb, ltb}
+use lib.Dec.{ltb}
 use lib.ListN.{length}
 use Rattle.certificates.specs.declared.numbers.Stake.{Stake}
 use Rattle.certificates.specs.declared.messages.QC.{QC}
 use Rattle.certificates.specs.Config.{membersMax}
-use Rattle.certificates.specs.Error.{noRoom}
 use Rattle.trace.specs.declared.events.Kind.{Kind}
 use Rattle.trace.specs.Form.{formOf, anyAbove}
-use Rattle.trace.specs.Limits.{limitOf}
 use Rattle.trace.specs.Fields.{voteOf, timeoutOf, blockOf}
 use Rattle.trace.specs.Layout.{blockQC, timeoutQC, tcBody, qcPart, tcPart, payloadOf}
 use Rattle.trace.proofs.FieldLaws.{vote-verdict, timeout-verdict}
 use Rattle.trace.proofs.FormLaws.{formed}
 use Rattle.outputs.specs.Records.{Rec, make, makeWith}
 use Rattle.aggregator.specs.Tally.{signers}
-use Rattle.replica.specs.Started.{roomy}
-use Rattle.replica.specs.Step.{World, Result, refusedIn, committee, handled, started, onOther, onKind, stepped}
+use Rattle.replica.specs.Step.{World, committee, handled}
 use Rattle.replica.proofs.StartedLaws.{started-ready}
 use Rattle.runs.specs.Runs.{Event, stepOn, Written}
-use Rattle.runs.proofs.Steps.{Started, stepIn}
+use Rattle.runs.proofs.Steps.{Started, stepIn, Gives, roomless, limited, gives, step-is}
 use Rattle.runs.proofs.Tallied.{Quorate}
 use Rattle.runs.proofs.Kept.{Signatures, unknown, every-written, Kept, Writes, Good, good-quiet}
 use Rattle.runs.proofs.Handled.{SureQC, SureTC, Mine, good-handled-vote, good-handled-timeout, good-handled-tc, good-handled-tick, good-processed, good-proposed}
@@ -66,36 +61,9 @@ vote-yes r f n = vote-verdict r ∙ small-mark _ _ (formed r Kind.Vote refl f .m
 timeout-yes : (r : List ℕ) → formOf r ≡ Kind.Timeout → (timeoutOf r .verdict ≡ 0 → ⊥) → timeoutOf r .verdict ≡ 1
 timeout-yes r f n = timeout-verdict r ∙ small-mark _ _ (formed r Kind.Timeout refl f .marks) (λ z. n (timeout-verdict r ∙ z))
 
--- ---- an event is refused, or gives what its kind says
+-- ---- every event
 
 module _ (w : World) (e : Event) (t : Stake) (s : Started w t) where
-  abbrev Is : Result → Kind → Type 0
-  Is x k = ((n : ℕ) × (x ≡ refusedIn n w)) ⊎ (x ≡ handled w (e .bytes) k)
-
-  by-tests : (k : Kind) (a b : Bool) (n : ℕ) → Is (cond a (cond b (handled w (e .bytes) k) (refusedIn n w)) (refusedIn noRoom w)) k
-  by-tests k true true n = inr refl
-  by-tests k true false n = inl (n, refl)
-  by-tests k false b n = inl (noRoom, refl)
-
-  by-other : (k : Kind) → Is (onOther w (e .room) (e .bytes) k (started w)) k
-  by-other k = rw s (by-tests k (roomy (length (w .table)) (e .room)) (eqb (limitOf (e .bytes) k) 0) (limitOf (e .bytes) k))
-
-  by-kind : (k : Kind) → Is (onKind w (e .room) (e .bytes) k) k
-  by-kind Kind.Bad = inr refl
-  by-kind Kind.Start = rw s (inr refl)
-  by-kind Kind.Propose = by-other Kind.Propose
-  by-kind Kind.Vote = by-other Kind.Vote
-  by-kind Kind.Timeout = by-other Kind.Timeout
-  by-kind Kind.Tc = by-other Kind.Tc
-  by-kind Kind.Loopback = by-other Kind.Loopback
-  by-kind Kind.Tick = by-other Kind.Tick
-
-  pub step-is : ((n : ℕ) × (stepOn w e ≡ refusedIn n w)) ⊎ (stepOn w e ≡ handled w (e .bytes) (formOf (e .bytes)))
-  unfolding stepped
-  step-is = by-kind (formOf (e .bytes))
-
-  -- ---- every event
-
   few : length (committee w) ≤ membersMax
   few = started-ready (w .seat) (w .stakes) (w .state .votes) (w .state .timeouts) t s .sound .few
 
@@ -112,11 +80,12 @@ module _ (w : World) (e : Event) (t : Stake) (s : Started w t) where
 
     -- L4, L8: the names in the tallies, in the high QC and in the certificates of MAKE are then those of members that signed.
     pub good-step : Mine g (w .seat .own .0) (stepOn w e .outs) → Good (committee w) g (stepIn (stepOn w e))
-    good-step mine =
-        ⊎-elim
-        (λ x. rw (x .1) (good-quiet (committee w) g k))
-        (λ x. rw x (good-kind (formOf (e .bytes)) refl (rw x at mine)))
-        step-is
+    good-step mine = cases (step-is w e t s)
+      where
+        cases : Gives w e (formOf (e .bytes)) (stepOn w e) → Good (committee w) g (stepIn (stepOn w e))
+        cases (roomless x) = rw x (good-quiet (committee w) g k)
+        cases (limited x) = rw x (good-quiet (committee w) g k)
+        cases (gives x) = rw x (good-kind (formOf (e .bytes)) refl (rw x at mine))
 
   -- ---- whatever the results are
 

@@ -23,6 +23,7 @@ use Rattle.runs.specs.Courses.{Stage, next, worldAfter, outsOf, Course, 
 use Rattle.runs.specs.Runs.{Event, stepOn, only, isSigned, isCommit, signedIn, deliveredIn, roundOf, votedOf, committedOf, highOf}
 use Rattle.runs.proofs.Lists.{only-append}
 use Rattle.runs.proofs.Marks.{Mark, skip, above, reach, Marked, marked-append}
+use Rattle.runs.proofs.Plain.{roundIn, highIn}
 use Rattle.runs.proofs.Lawful.{votedIn, committedIn, Signs, nothing, ballot, expiry, Delivers}
 use Rattle.runs.proofs.Blocks.{deliveries-rising}
 use Rattle.runs.proofs.Steps.{Started, step-lawful, started-again, Starts, starts, start-started, start-silent}
@@ -122,7 +123,11 @@ pub record Ordered (w : World) : Type 0 where
 pub next-ordered : (w : World) (g : Stage) (t : Stake) → Started w t → Ordered w → Ordered (next w g)
 next-ordered w g t s h =
     let k = step-lawful w (g .event) t s .lawful in
-    record { high = rw (next-core w g) (k .below (h .high)); voted = rw (next-core w g) (k .within (h .voted)) }
+    let e = next-core w g in
+    let n : roundOf (next w g) ≡ roundOf (stepOn w (g .event) .world) = ap roundIn e in
+    let v : votedOf (next w g) ≡ votedOf (stepOn w (g .event) .world) = ap votedIn e in
+    let q : highOf (next w g) ≡ highOf (stepOn w (g .event) .world) = ap highIn e in
+    record { high = omega (arith, k .below (h .high)); voted = omega (arith, k .within (h .voted)) }
 
 pub stages-ordered : (w : World) (ss : List Stage) (t : Stake) → Started w t → Ordered w → Ordered (worldAfter w ss)
 unfolding worldAfter
