@@ -50,9 +50,9 @@ use Rattle.replica.specs.Blocks.{slotFor, workFor, settledFor, processed, going
 use Rattle.replica.specs.Step.{World, Result, refusedIn, committee, handled, stepped}
 use Rattle.replica.proofs.StartedLaws.{started-ready}
 use Rattle.runs.specs.Runs.{Event, stepOn, committedOf}
-use Rattle.runs.specs.Passed.{Waits, Passed}
+use Rattle.runs.specs.Passed.{Waits, Passed, Looped}
 use Rattle.runs.proofs.Late.{by-table}
-use Rattle.runs.proofs.Steps.{Started, Gives, roomless, limited, gives, step-is}
+use Rattle.runs.proofs.Steps.{Started, Gives, formless, again, roomless, limited, gives, step-is}
 
 module _ (P : ℕ → Type 0) where
   in-cond : (b : Bool) (x y : ℕ) → P x → P y → P (cond b x y)
@@ -161,8 +161,8 @@ apart =
       empty = inr (omega arith);
     }
 
-never : {A : Type 0} (n : ℕ) → Apart n → (n ≡ 0 → ⊥) → (n ≡ waitParent) ⊎ (n ≡ waitPayload) → A
-never n a z w = absurd (⊎-elim (λ e. ⊎-elim z (λ h. omega arith) a) (λ e. ⊎-elim z (λ h. omega arith) a) w)
+never : {A : Type 0} (n : ℕ) → Apart n → (n ≡ waitParent) ⊎ (n ≡ waitPayload) → A
+never n a w = absurd (⊎-elim (λ e. ⊎-elim (λ z. omega arith) (λ h. omega arith) a) (λ e. ⊎-elim (λ z. omega arith) (λ h. omega arith) a) w)
 
 module _ (w : World) (e : Event) (t : Stake) (s : Started w t) where
   abbrev checkOf : ℕ
@@ -172,44 +172,33 @@ module _ (w : World) (e : Event) (t : Stake) (s : Started w t) where
   unfolding goingOn
   refused-answer h = rw (proposal-refused (committee w) (w .state) (blockOf (e .bytes)) (e .bytes) (payloadOf (e .bytes)) h) refl
 
-  -- a PROPOSE passed its checks, or its answer is the number of a want of room, a limit or a check
-  passed-or : formOf (e .bytes) ≡ Kind.Propose → Passed w e ⊎ ((n : ℕ) × (stepOn w e .answer ≡ n) × (n ≡ 0 → ⊥) × ((n ≡ noRoom) ⊎ ((n ≡ limitOf (e .bytes) Kind.Propose) ⊎ (n ≡ checkOf))))
-  unfolding stepped
-  passed-or k = cases (roomy (length (w .table)) (e .room)) (eqb (limitOf (e .bytes) Kind.Propose) 0) (eqb checkOf 0) refl refl refl
-    where
-      cases : (a b c : Bool) → roomy (length (w .table)) (e .room) ≡ a → eqb (limitOf (e .bytes) Kind.Propose) 0 ≡ b → eqb checkOf 0 ≡ c
-          → Passed w e ⊎ ((n : ℕ) × (stepOn w e .answer ≡ n) × (n ≡ 0 → ⊥) × ((n ≡ noRoom) ⊎ ((n ≡ limitOf (e .bytes) Kind.Propose) ⊎ (n ≡ checkOf))))
-      cases true true true x y z = inl (record { kind = k; room = x; limits = eqb-true _ 0 y; checks = eqb-true _ 0 z })
-      cases true true false x y z =
-          let g : stepOn w e ≡ handled w (e .bytes) Kind.Propose = rw (k, s, x, y) refl in
-          inr (checkOf, ap (λ (r : Result). r .answer) g ∙ refused-answer (eqb-false _ 0 z), eqb-false _ 0 z, inr (inr refl))
-      cases true false c x y z =
-          let g : stepOn w e ≡ refusedIn (limitOf (e .bytes) Kind.Propose) w = rw (k, s, x, y) refl in
-          inr (limitOf (e .bytes) Kind.Propose, ap (λ (r : Result). r .answer) g, eqb-false _ 0 y, inr (inl refl))
-      cases false b c x y z =
-          let g : stepOn w e ≡ refusedIn noRoom w = rw (k, s, x) refl in
-          inr (noRoom, ap (λ (r : Result). r .answer) g, (λ v. omega arith), inl refl)
-
   -- where P holds of the numbers of checks, it holds of the answer to a PROPOSE that did not pass them
-  passed-unless : (P : ℕ → Type 0) → Checks P → P noRoom → formOf (e .bytes) ≡ Kind.Propose → Passed w e ⊎ (P (stepOn w e .answer) × (stepOn w e .answer ≡ 0 → ⊥))
-  passed-unless P c room k =
-      ⊎-elim
-      (λ p. inl p)
-      (λ r. inr (rw (r .1) (by (r .0) (r .3)), (λ z. r .2 (sym (r .1) ∙ z))))
-      (passed-or k)
+  passed-unless : (P : ℕ → Type 0) → Checks P → P noRoom → P startedAgain → formOf (e .bytes) ≡ Kind.Propose → Passed w e ⊎ P (stepOn w e .answer)
+  passed-unless P c room twice k = cases (rw k at (step-is w e t s))
     where
-      by : (n : ℕ) → (n ≡ noRoom) ⊎ ((n ≡ limitOf (e .bytes) Kind.Propose) ⊎ (n ≡ checkOf)) → P n
-      by n (inl f) = rw f room
-      by n (inr (inl f)) = rw f (limit-in P c (e .bytes) Kind.Propose)
-      by n (inr (inr f)) = rw f (check-in P c (committee w) (blockOf (e .bytes)) (e .bytes) (qcFound (committee w) (e .bytes)))
+      at : (x : Result) → stepOn w e ≡ x → P (x .answer) → P (stepOn w e .answer)
+      at x g h = rw g h
+
+      check : roomy (length (w .table)) (e .room) ≡ true → limitOf (e .bytes) Kind.Propose ≡ 0 → stepOn w e ≡ handled w (e .bytes) Kind.Propose → (u : Bool) → eqb checkOf 0 ≡ u
+          → Passed w e ⊎ P (stepOn w e .answer)
+      check x y g true z = inl (record { kind = k; room = x; limits = y; checks = eqb-true _ 0 z })
+      check x y g false z =
+          inr (rw (g, refused-answer (eqb-false _ 0 z)) (check-in P c (committee w) (blockOf (e .bytes)) (e .bytes) (qcFound (committee w) (e .bytes))))
+
+      cases : Gives w e Kind.Propose (stepOn w e) → Passed w e ⊎ P (stepOn w e .answer)
+      cases (formless g) = inr (at _ g (c .bad))
+      cases (again g) = inr (at _ g twice)
+      cases (roomless g) = inr (at _ g room)
+      cases (limited g) = inr (at _ g (limit-in P c (e .bytes) Kind.Propose))
+      cases (gives x y g) = check x y g (eqb checkOf 0) refl
 
   -- A PROPOSE that is answered 2 or 3 passed its checks.
   pub waits-passed : Waits w e → Passed w e
   waits-passed k =
       ⊎-elim
       (λ p. p)
-      (λ r. never (stepOn w e .answer) (r .0) (r .1) (k .waits))
-      (passed-unless Apart apart (inr (omega arith)) (k .kind))
+      (λ r. never (stepOn w e .answer) r (k .waits))
+      (passed-unless Apart apart (inr (omega arith)) (inr (omega arith)) (k .kind))
 
 -- ---- 30 and 31
 
@@ -313,7 +302,7 @@ module _ (w : World) (e : Event) (t : Stake) (s : Started w t) (n : ℕ) (is : (
       rw (ap (λ (x : Round). x .0) same) at (settled-stopped (w .table) (workFor b (u .core .«last_committed_round») 0) n ne nf refl (k .0))
 
   pub record StoppedIn : Type 0 where
-    pub brought : Passed w e ⊎ (formOf (e .bytes) ≡ Kind.Loopback)
+    pub brought : Passed w e ⊎ Looped w e
     pub by : Stopped (w .table) (slotFor b) (committedOf w) n
 
   by-propose : Passed w e → stepOn w e .answer ≡ n → StoppedIn
@@ -335,17 +324,18 @@ module _ (w : World) (e : Event) (t : Stake) (s : Started w t) (n : ℕ) (is : (
       cases x same true h = treated (x .state) same h
       cases x same false h = absurd (stops (payloadNumber (payloadOf (e .bytes))) h (payload-elsewhere (payloadOf (e .bytes))))
 
-  by-handled : (k : Kind) → formOf (e .bytes) ≡ k → handled w (e .bytes) k .answer ≡ n → stepOn w e .answer ≡ n → StoppedIn
+  by-handled : (k : Kind) → formOf (e .bytes) ≡ k → roomy (length (w .table)) (e .room) ≡ true → limitOf (e .bytes) k ≡ 0 → handled w (e .bytes) k .answer ≡ n
+      → stepOn w e .answer ≡ n → StoppedIn
   unfolding member
-  by-handled Kind.Bad f h a = absurd (stops _ h refl)
-  by-handled Kind.Start f h a = absurd (stops _ h refl)
-  by-handled Kind.Propose f h a =
-      ⊎-elim (λ p. by-propose p a) (λ r. absurd (stops _ a (r .0))) (passed-unless w e t s Elsewhere elsewhere refl f)
-  by-handled Kind.Vote f h a = absurd (stops _ h (vote-elsewhere w (e .bytes)))
-  by-handled Kind.Timeout f h a = absurd (stops _ h (timeout-elsewhere w (e .bytes)))
-  by-handled Kind.Tc f h a = absurd (stops _ h (tc-elsewhere w (e .bytes)))
-  by-handled Kind.Loopback f h a = record { brought = inr f; by = treated (w .state) refl h }
-  by-handled Kind.Tick f h a = absurd (stops _ h (tick-elsewhere w (e .bytes)))
+  by-handled Kind.Bad f x y h a = absurd (stops _ h refl)
+  by-handled Kind.Start f x y h a = absurd (stops _ h refl)
+  by-handled Kind.Propose f x y h a =
+      ⊎-elim (λ p. by-propose p a) (λ r. absurd (stops (stepOn w e .answer) a r)) (passed-unless w e t s Elsewhere elsewhere refl refl f)
+  by-handled Kind.Vote f x y h a = absurd (stops _ h (vote-elsewhere w (e .bytes)))
+  by-handled Kind.Timeout f x y h a = absurd (stops _ h (timeout-elsewhere w (e .bytes)))
+  by-handled Kind.Tc f x y h a = absurd (stops _ h (tc-elsewhere w (e .bytes)))
+  by-handled Kind.Loopback f x y h a = record { brought = inr (record { kind = f; room = x; limits = y }); by = treated (w .state) refl h }
+  by-handled Kind.Tick f x y h a = absurd (stops _ h (tick-elsewhere w (e .bytes)))
 
   -- An event that is answered 30 or 31 brought a block, and this is what it met at the table.
   pub stopped : stepOn w e .answer ≡ n → StoppedIn
@@ -356,6 +346,8 @@ module _ (w : World) (e : Event) (t : Stake) (s : Started w t) (n : ℕ) (is : (
       at x g = sym (ap (λ (r : Result). r .answer) g) ∙ a
 
       cases : Gives w e (formOf (e .bytes)) (stepOn w e) → StoppedIn
+      cases (formless g) = absurd (stops badRecord (at _ g) refl)
+      cases (again g) = absurd (stops startedAgain (at _ g) refl)
       cases (roomless g) = absurd (stops noRoom (at _ g) refl)
       cases (limited g) = absurd (stops _ (at _ g) (limit-in Elsewhere elsewhere (e .bytes) (formOf (e .bytes))))
-      cases (gives g) = by-handled (formOf (e .bytes)) refl (at _ g) a
+      cases (gives x y g) = by-handled (formOf (e .bytes)) refl x y (at _ g) a

@@ -1,12 +1,11 @@
 -- What an event gives, by its kind, from a world that counts as started; w is the world before the event e, `stepOn w e` what it gives. Assumes nothing.
---     Brings w e, brings      a VOTE, a COMMIT and a stored block come from a PROPOSE that passes its checks, or from a LOOPBACK
+--     Brings w e, brings      a VOTE, a COMMIT and a stored block come from a PROPOSE that passes its checks, or from a LOOPBACK that is taken
 --     passed-high             after a PROPOSE that passes its checks the high QC is not below the block's QC, also where it waits (2, 3)
 --     passed-qc, passed-tc    its QC and its TC were accepted
 use Prim.Native.Nat.{ℕ, suc, _≤_}
 use mathlib.Core.Bool.{Bool, true, false, cond}
 use mathlib.Core.List.{List, [], _∷_}
-use mathlib.Core.Logic.{_⊎_, inl, inr, ⊎-elim}
-use mathlib.Core.Path.{_≡_, refl, sym, ap, _∙_}
+use mathlib.Core.Path.{_≡_, refl, ap, _∙_}
 use native.Mathlib.Nat.{le-trans}
 use native.Mathlib.Omega.{arith}
 use borrow.Author.Tests.{eqb-true, eqb-false}
@@ -19,7 +18,7 @@ use Rattle.certificates.specs.declared.messages.Checked.the-variants.{Accepted}
 use Rattle.certificates.specs.Config.{quorumFrom, quorumOf}
 use Rattle.certificates.specs.Messages.{embeddedCheck, tcCheck}
 use Rattle.certificates.specs.Numbers.{roundMax}
-use Rattle.certificates.specs.Error.{roundTooHigh, noRoom, qcRequiresQuorum, tcRequiresQuorum, numberOf}
+use Rattle.certificates.specs.Error.{roundTooHigh, qcRequiresQuorum, tcRequiresQuorum, numberOf}
 use Rattle.certificates.proofs.ErrorLaws.{number-accepted}
 use Rattle.trace.specs.declared.events.Kind.{Kind}
 use Rattle.trace.specs.declared.events.Block.{Block}
@@ -42,11 +41,11 @@ use Rattle.replica.specs.Blocks.{processed, goingOn, goingOnTable}
 use Rattle.replica.specs.Step.{World, Result, refusedIn, committee, handled, stepped}
 use Rattle.replica.proofs.StartedLaws.{Ready, started-ready}
 use Rattle.runs.specs.Runs.{Event, stepOn, Written, only, isSigned, signedIn, deliveredIn, highOf}
-use Rattle.runs.specs.Passed.{Passed}
+use Rattle.runs.specs.Passed.{Passed, Looped}
 use Rattle.runs.proofs.Lists.{written-only, written-none, written-one}
 use Rattle.runs.proofs.Plain.{highIn, Silent, plain-vote, plain-timeout, plain-tc, plain-own-timeout}
 use Rattle.runs.proofs.Blocks.{taken-high, treats-processed}
-use Rattle.runs.proofs.Steps.{Started, Gives, roomless, limited, gives, step-is}
+use Rattle.runs.proofs.Steps.{Started, Gives, formless, again, roomless, limited, gives, step-is}
 
 -- ---- an event that passes its checks
 
@@ -63,32 +62,9 @@ pub record Idle (w : World) (x : Result) : Type 0 where
   pub commits : deliveredIn (x .outs) ≡ []
   pub table : x .world .table ≡ w .table
 
-abbrev pub isPropose : Kind → Bool
-isPropose Kind.Bad = false
-isPropose Kind.Start = false
-isPropose Kind.Propose = true
-isPropose Kind.Vote = false
-isPropose Kind.Timeout = false
-isPropose Kind.Tc = false
-isPropose Kind.Loopback = false
-isPropose Kind.Tick = false
-
-never : {A : Type 0} → _≡_ {A = Bool} false true → A
-never e = absurd (let z : _≡_ {A = ℕ} 0 1 = cc in omega arith)
-
-pub is-propose : (k : Kind) → isPropose k ≡ true → k ≡ Kind.Propose
-is-propose Kind.Bad e = never e
-is-propose Kind.Start e = never e
-is-propose Kind.Propose e = refl
-is-propose Kind.Vote e = never e
-is-propose Kind.Timeout e = never e
-is-propose Kind.Tc e = never e
-is-propose Kind.Loopback e = never e
-is-propose Kind.Tick e = never e
-
 pub data Brings (w : World) (e : Event) : Type 0 where
   proposes : Passed w e → Brings w e
-  loops : formOf (e .bytes) ≡ Kind.Loopback → Brings w e
+  loops : Looped w e → Brings w e
   idles : Idle w (stepOn w e) → Brings w e
 
 silent-votes : {outs : List Rec} {to n : ℕ} {h : Hash} → Silent outs → Written (vote to h n) outs → ⊥
@@ -135,46 +111,36 @@ idle-proposed w r h =
     (let k = idle-refused 0 w in record { votes = k .votes; commits = k .commits; table = refl })
 
 module _ (w : World) (e : Event) (t : Stake) (s : Started w t) where
-  by-handled : (k : Kind) → isPropose k ≡ false → formOf (e .bytes) ≡ k → stepOn w e ≡ handled w (e .bytes) k → Brings w e
-  by-handled Kind.Bad z f g = idles (rw g (idle-refused _ w))
-  by-handled Kind.Start z f g = idles (rw g (idle-refused _ w))
-  by-handled Kind.Propose z f g = absurd (let y : _≡_ {A = ℕ} 0 1 = cc in omega arith)
-  by-handled Kind.Vote z f g = idles (rw g (idle-silent w (handled w (e .bytes) Kind.Vote) (plain-vote (committee w) (w .seat .own .0) (w .state) (voteOf (e .bytes)) .silent) refl))
-  by-handled Kind.Timeout z f g =
-      idles (rw g (idle-silent w (handled w (e .bytes) Kind.Timeout) (plain-timeout (committee w) (w .seat .own .0) (w .state) (timeoutOf (e .bytes)) (e .bytes) .silent) refl))
-  by-handled Kind.Tc z f g =
-      idles (rw g (idle-silent w (handled w (e .bytes) Kind.Tc) (plain-tc (committee w) (w .seat .own .0) (w .state) (tcRound (e .bytes) tcBody) (e .bytes) .silent) refl))
-  by-handled Kind.Loopback z f g = loops f
-  by-handled Kind.Tick z f g = idles (rw g (idle-tick w (e .bytes)))
-
   abbrev checkOf : ℕ
   checkOf = proposalCheck (committee w) (blockOf (e .bytes)) (e .bytes) (qcFound (committee w) (e .bytes))
 
-  by-propose : formOf (e .bytes) ≡ Kind.Propose → (a b c : Bool) → roomy (length (w .table)) (e .room) ≡ a → eqb (limitOf (e .bytes) Kind.Propose) 0 ≡ b → eqb checkOf 0 ≡ c → Brings w e
-  unfolding stepped
-  by-propose f true true true x y z = proposes (record { kind = f; room = x; limits = eqb-true _ 0 y; checks = eqb-true _ 0 z })
-  by-propose f true true false x y z =
-      let g : stepOn w e ≡ handled w (e .bytes) Kind.Propose = rw (f, s, x, y) refl in
-      idles (rw g (idle-proposed w (e .bytes) (eqb-false _ 0 z)))
-  by-propose f true false c x y z =
-      let g : stepOn w e ≡ refusedIn (limitOf (e .bytes) Kind.Propose) w = rw (f, s, x, y) refl in
-      idles (rw g (idle-refused _ w))
-  by-propose f false b c x y z =
-      let g : stepOn w e ≡ refusedIn noRoom w = rw (f, s, x) refl in
-      idles (rw g (idle-refused _ w))
+  by-propose : formOf (e .bytes) ≡ Kind.Propose → roomy (length (w .table)) (e .room) ≡ true → limitOf (e .bytes) Kind.Propose ≡ 0 → stepOn w e ≡ handled w (e .bytes) Kind.Propose
+      → (c : Bool) → eqb checkOf 0 ≡ c → Brings w e
+  by-propose f x y g true z = proposes (record { kind = f; room = x; limits = y; checks = eqb-true _ 0 z })
+  by-propose f x y g false z = idles (rw g (idle-proposed w (e .bytes) (eqb-false _ 0 z)))
 
-  -- What votes, commits or stores is a PROPOSE that passes its checks, or a LOOPBACK.
+  by-handled : (k : Kind) → formOf (e .bytes) ≡ k → roomy (length (w .table)) (e .room) ≡ true → limitOf (e .bytes) k ≡ 0 → stepOn w e ≡ handled w (e .bytes) k → Brings w e
+  by-handled Kind.Bad f x y g = idles (rw g (idle-refused _ w))
+  by-handled Kind.Start f x y g = idles (rw g (idle-refused _ w))
+  by-handled Kind.Propose f x y g = by-propose f x y g (eqb checkOf 0) refl
+  by-handled Kind.Vote f x y g = idles (rw g (idle-silent w (handled w (e .bytes) Kind.Vote) (plain-vote (committee w) (w .seat .own .0) (w .state) (voteOf (e .bytes)) .silent) refl))
+  by-handled Kind.Timeout f x y g =
+      idles (rw g (idle-silent w (handled w (e .bytes) Kind.Timeout) (plain-timeout (committee w) (w .seat .own .0) (w .state) (timeoutOf (e .bytes)) (e .bytes) .silent) refl))
+  by-handled Kind.Tc f x y g =
+      idles (rw g (idle-silent w (handled w (e .bytes) Kind.Tc) (plain-tc (committee w) (w .seat .own .0) (w .state) (tcRound (e .bytes) tcBody) (e .bytes) .silent) refl))
+  by-handled Kind.Loopback f x y g = loops (record { kind = f; room = x; limits = y })
+  by-handled Kind.Tick f x y g = idles (rw g (idle-tick w (e .bytes)))
+
+  -- What votes, commits or stores is a PROPOSE that passes its checks, or a LOOPBACK that is taken.
   pub brings : Brings w e
-  brings = cases (formOf (e .bytes)) (isPropose (formOf (e .bytes))) refl refl
+  brings = cases (step-is w e t s)
     where
-      by-gives : (k : Kind) → isPropose k ≡ false → formOf (e .bytes) ≡ k → Gives w e (formOf (e .bytes)) (stepOn w e) → Brings w e
-      by-gives k z f (roomless g) = idles (rw g (idle-refused _ w))
-      by-gives k z f (limited g) = idles (rw g (idle-refused _ w))
-      by-gives k z f (gives g) = by-handled k z f (g ∙ ap (handled w (e .bytes)) f)
-
-      cases : (k : Kind) (u : Bool) → isPropose k ≡ u → formOf (e .bytes) ≡ k → Brings w e
-      cases k true z f = by-propose (f ∙ is-propose k z) _ _ _ refl refl refl
-      cases k false z f = by-gives k z f (step-is w e t s)
+      cases : Gives w e (formOf (e .bytes)) (stepOn w e) → Brings w e
+      cases (formless g) = idles (rw g (idle-refused _ w))
+      cases (again g) = idles (rw g (idle-refused _ w))
+      cases (roomless g) = idles (rw g (idle-refused _ w))
+      cases (limited g) = idles (rw g (idle-refused _ w))
+      cases (gives x y g) = by-handled (formOf (e .bytes)) refl x y g
 
 -- ---- a PROPOSE that passes its checks
 

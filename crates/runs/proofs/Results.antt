@@ -26,7 +26,7 @@ use Rattle.aggregator.specs.Tally.{signers}
 use Rattle.replica.specs.Step.{World, committee, handled}
 use Rattle.replica.proofs.StartedLaws.{started-ready}
 use Rattle.runs.specs.Runs.{Event, stepOn, Written}
-use Rattle.runs.proofs.Steps.{Started, stepIn, Gives, roomless, limited, gives, step-is}
+use Rattle.runs.proofs.Steps.{Started, stepIn, Gives, formless, again, roomless, limited, gives, step-is}
 use Rattle.runs.proofs.Tallied.{Quorate}
 use Rattle.runs.proofs.Kept.{Signatures, unknown, every-written, Kept, Writes, Good, good-quiet}
 use Rattle.runs.proofs.Handled.{SureQC, SureTC, Mine, good-handled-vote, good-handled-timeout, good-handled-tc, good-handled-tick, good-processed, good-proposed}
@@ -83,9 +83,11 @@ module _ (w : World) (e : Event) (t : Stake) (s : Started w t) where
     good-step mine = cases (step-is w e t s)
       where
         cases : Gives w e (formOf (e .bytes)) (stepOn w e) → Good (committee w) g (stepIn (stepOn w e))
+        cases (formless x) = rw x (good-quiet (committee w) g k)
+        cases (again x) = rw x (good-quiet (committee w) g k)
         cases (roomless x) = rw x (good-quiet (committee w) g k)
         cases (limited x) = rw x (good-quiet (committee w) g k)
-        cases (gives x) = rw x (good-kind (formOf (e .bytes)) refl (rw x at mine))
+        cases (gives y z x) = rw x (good-kind (formOf (e .bytes)) refl (rw x at mine))
 
   -- ---- whatever the results are
 

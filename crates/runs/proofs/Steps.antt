@@ -3,7 +3,7 @@
 --     tookBy k b                      the round that the high QC has reached when the block b of an event of kind k is voted for
 --     Steps total w r k x             of the record r of kind k: members, stakes, own place and the table's length stay, and the state moves by the laws of `Lawful`
 --     steps-refused, step-lawful      a refusal; any event
---     Gives w e k x, step-is          an event is refused for want of room or by a limit, or gives what its kind k says
+--     Gives w e k x, step-is          an event is refused by 16, 34, 18 or a limit, or gives what its kind k says
 --     Started w t, started-again      the world counts as started with the total stake t; it does after any event
 --     start-world, start-started      a START that was taken: the world that it leaves, which counts as started
 --     start-silent                    .. and that it signs and delivers nothing
@@ -12,7 +12,7 @@ use mathlib.Core.Bool.{Bool, true, false, cond}
 use mathlib.Core.List.{List}
 use mathlib.Core.Path.{_≡_, refl, sym, _∙_, ap}
 use native.Mathlib.Omega.{arith}
-use borrow.Author.Tests.{eq-eqb}
+use borrow.Author.Tests.{eq-eqb, eqb-true}
 use lib.Dec.{eqb}
 use lib.ListN.{length, drop, length-replicate}
 use Rattle.certificates.specs.Config.{membersMax, quorumFrom, quorumOf, setupOf}
@@ -177,25 +177,28 @@ step-lawful w e t s = cases (formOf (e .bytes))
     cases Kind.Loopback = other Kind.Loopback
     cases Kind.Tick = other Kind.Tick
 
--- ---- an event is refused for want of room or by a limit, or gives what its kind says
+-- ---- an event is refused by 16, 34, 18 or a limit, or gives what its kind says
 
 pub data Gives (w : World) (e : Event) (k : Kind) (x : Result) : Type 0 where
+  formless : x ≡ refusedIn badRecord w → Gives w e k x
+  again : x ≡ refusedIn startedAgain w → Gives w e k x
   roomless : x ≡ refusedIn noRoom w → Gives w e k x
   limited : x ≡ refusedIn (limitOf (e .bytes) k) w → Gives w e k x
-  gives : x ≡ handled w (e .bytes) k → Gives w e k x
+  gives : roomy (length (w .table)) (e .room) ≡ true → limitOf (e .bytes) k ≡ 0 → x ≡ handled w (e .bytes) k → Gives w e k x
 
 module _ (w : World) (e : Event) (t : Stake) (s : Started w t) where
-  by-tests : (k : Kind) (a b : Bool) → Gives w e k (cond a (cond b (handled w (e .bytes) k) (refusedIn (limitOf (e .bytes) k) w)) (refusedIn noRoom w))
-  by-tests k true true = gives refl
-  by-tests k true false = limited refl
-  by-tests k false b = roomless refl
+  by-tests : (k : Kind) (a b : Bool) → roomy (length (w .table)) (e .room) ≡ a → eqb (limitOf (e .bytes) k) 0 ≡ b
+      → Gives w e k (cond a (cond b (handled w (e .bytes) k) (refusedIn (limitOf (e .bytes) k) w)) (refusedIn noRoom w))
+  by-tests k true true f g = gives f (eqb-true _ 0 g) refl
+  by-tests k true false f g = limited refl
+  by-tests k false b f g = roomless refl
 
   by-other : (k : Kind) → Gives w e k (onOther w (e .room) (e .bytes) k (started w))
-  by-other k = rw s (by-tests k (roomy (length (w .table)) (e .room)) (eqb (limitOf (e .bytes) k) 0))
+  by-other k = rw s (by-tests k (roomy (length (w .table)) (e .room)) (eqb (limitOf (e .bytes) k) 0) refl refl)
 
   by-kind : (k : Kind) → Gives w e k (onKind w (e .room) (e .bytes) k)
-  by-kind Kind.Bad = gives refl
-  by-kind Kind.Start = rw s (gives refl)
+  by-kind Kind.Bad = formless refl
+  by-kind Kind.Start = rw s (again refl)
   by-kind Kind.Propose = by-other Kind.Propose
   by-kind Kind.Vote = by-other Kind.Vote
   by-kind Kind.Timeout = by-other Kind.Timeout

@@ -1,0 +1,5 @@
+pub mod Contents
+pub mod Rules
+pub mod Ledgers
+pub mod Left
+pub mod Bytes
