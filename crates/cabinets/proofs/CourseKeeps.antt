@@ -1,61 +1,59 @@
 -- The course of a member that obeys keeps all that is asked of a life. Premises: `Cabinets`. Assumes nothing.
---     traceOf r          what happens to blocks in a course
+--     Loops, Proposed, Made, Processed, Found, traceOf r      what happens to blocks in a course
 --     source             LOOPBACK carries what was offered before
 --     stored             the table holds what was offered
---     voting, commit     votes and commits
+--     voting, commits    votes and commits
 --     keeps              all of it
-use Prim.Native.Nat.{ℕ, zero, suc, max, _+_, _≤_, _<_}
-use mathlib.Core.Bool.{Bool, true, false, cond, _||_}
+use Prim.Native.Nat.{ℕ, zero, suc, _+_, _≤_, _<_}
+use mathlib.Core.Bool.{Bool, true, false, cond}
 use mathlib.Core.List.{List, [], _∷_, _++_, map, append-assoc}
 use mathlib.Core.Logic.{_⊎_, inl, inr, ⊎-elim}
 use mathlib.Core.Path.{_≡_, refl, sym, ap, _∙_}
 use native.Mathlib.Omega.{arith}
-use borrow.Author.Tests.{eqb-true, eqb-false, ne-eqb}
+use borrow.Author.Tests.{eqb-false, ne-eqb}
 use lib.Dec.{eqb}
 use lib.ListN.{length, getD, length-append}
 use Rattle.certificates.specs.declared.numbers.Hash.{Hash}
-use Rattle.certificates.specs.declared.numbers.Signers.{Signers}
 use Rattle.certificates.specs.declared.messages.QC.{QC}
-use Rattle.certificates.specs.Config.{quorumOf}
 use Rattle.certificates.specs.Num.{numAt, hashAt}
-use Rattle.certificates.specs.Signers.{isIn, words, member}
-use Rattle.certificates.specs.Messages.{isGenesis}
+use Rattle.certificates.specs.Signers.{isIn, words}
 use Rattle.trace.specs.declared.events.Kind.{Kind}
-use Rattle.trace.specs.declared.events.Block.{Block}
-use Rattle.trace.specs.Form.{formOf}
 use Rattle.trace.specs.Fields.{blockOf}
-use Rattle.trace.specs.Layout.{blockQC, qcPart, tcPart, largest, highsOf, largestHigh}
+use Rattle.trace.specs.Layout.{blockQC, qcPart, tcPart, highsOf, largestHigh}
 use Rattle.trace.proofs.PartLaws.{qc-part-hash, qc-part-round, tc-part-round, highs-le}
 use Rattle.trace.proofs.FieldLaws.{block-qc-hash, block-qc-round, block-tc-round, block-tc-high}
-use Rattle.outputs.specs.Records.{Rec, vote, timeout, tc, make, makeWith, commit, sync, cleanProposer, cleanMempool, timerReset, answer, placesOf}
+use Rattle.outputs.specs.Records.{Rec, vote, timeout, tc, make, makeWith, commit, sync, cleanProposer, cleanMempool, timerReset, answer}
 use Rattle.aggregator.specs.Tally.{signers}
 use Rattle.synchronizer.specs.declared.table.Slot.{Slot}
-use Rattle.synchronizer.specs.Table.{cleared}
-use Rattle.synchronizer.specs.Walk.{walkOf, walkFrom, delivers}
+use Rattle.synchronizer.specs.Table.{cleared, ancestorsOf}
 use Rattle.synchronizer.specs.Settle.{commitRec}
+use Rattle.synchronizer.proofs.Lookups.{Has, cleared-has, line, walked-as, walk-slots}
 use Rattle.moves.specs.declared.state.Core.{Core}
 use Rattle.handlers.proofs.VoteTheorems.{ExtendsTC}
 use Rattle.replica.specs.Blocks.{slotFor}
-use Rattle.replica.specs.Step.{World, Result, newCore, newState}
-use Rattle.runs.specs.Runs.{stepOn, Written, deliveredIn, committedOf, highOf}
+use Rattle.replica.specs.Step.{Result, newCore}
+use Rattle.runs.specs.Runs.{stepOn, Written, committedOf, highOf}
+use Rattle.runs.specs.Courses.{Stage, Course, outsOf, worldAfter, origin}
+use Rattle.runs.specs.Passed.{Passed, Looped}
+use Rattle.runs.specs.Lives.{Ended}
+use Rattle.runs.specs.Signed.{Members, Sits}
+use Rattle.runs.proofs.Lists.{written-either}
 use Rattle.runs.proofs.Kept.{Every, every-written, Backs, Closes, Makes, Writes, kept-new, high-backs}
 use Rattle.runs.proofs.Handled.{embedded-backs, tc-closes}
-use Rattle.runs.proofs.Certificates.{word-bits}
-use Rattle.runs.proofs.Lawful.{Deliveries, none, some, Delivers}
+use Rattle.runs.proofs.Certificates.{largest-places}
+use Rattle.runs.proofs.Lawful.{Deliveries, none, some}
 use Rattle.runs.proofs.Steps.{tookBy}
+use Rattle.runs.proofs.Brings.{Brings, proposes, loops, idles, brings, passed-high, passed-qc, passed-tc}
 use Rattle.runs.proofs.Laws as laws
-use Rattle.cabinets.specs.Courses.{Stage, Course, outsPast, worldPast, originOf}
-use Rattle.cabinets.specs.Moments.{Moment, upTo, Passed}
-use Rattle.cabinets.specs.Contents.{Ending, without, ends, Content, endingOf, contentOf, highestOf, Builds, MadeFrom}
-use Rattle.cabinets.specs.Ledgers.{Members, Sits, Held, Ordered, Cabinets}
-use Rattle.cabinets.proofs.Laws.{Treats, proposes, loops, idles, treats, passed-high, passed-qc, passed-tc}
-use Rattle.cabinets.proofs.Lookups.{Has, stores-has, cleared-has, walk-slots, Committed, commits-on}
-use Rattle.cabinets.proofs.Lives.{Life, Certified, Ended}
+use Rattle.runs.proofs.Restart.{leaves-has}
+use Rattle.runs.proofs.Rounds.{course-starts}
+use Rattle.runs.proofs.Time.{at-past, ev-past, idle-bad, Split, split, outs-find}
+use Rattle.runs.proofs.CourseLives.{worldAt, stageAt, eventAt, total, resultAt, blockIn, world-first, world-next, core-next, started-at, ordered-at, deliveriesAt, before, Casts, lifeOf, careful, high-rises, timeout-high}
+use Rattle.runs.proofs.Parties.{partyOf}
+use Rattle.cabinets.specs.Contents.{without, ends, Content, endingOf, contentOf, highestOf, MadeFrom}
+use Rattle.cabinets.specs.Ledgers.{Held, Ordered, Cabinets}
 use Rattle.cabinets.proofs.Events.{slotOf, Trace, Offered, Voting, Committing, TrueQc, TrueTc, Keeps}
-use Rattle.cabinets.proofs.Restart.{leaves-has}
-use Rattle.cabinets.proofs.Time.{at, ev, gives, at-past, ev-past, idle, Split, split, outs-find, written-either}
-use Rattle.cabinets.proofs.CourseLives.{worldAt, stageAt, eventAt, resultAt, blockIn, beginning, world-first, world-next, core-next, started-at, ordered-at, deliveriesAt, before, Casts, lifeOf, careful, high-rises, timeout-high}
-use Rattle.cabinets.proofs.TrueCourses.{signs, partyOf, certified, ended, committee-at, moment, idle-kind, sure-at, true-at, honest-at, honest-start}
+use Rattle.cabinets.proofs.TrueCourses.{signs, certified, ended, committee-at, moment, sure-at, kept-at, good-at, good-start}
 
 module _ (r : Course) where
   -- by event i, or by START
@@ -64,7 +62,7 @@ module _ (r : Course) where
   outsBy (suc i) = resultAt r i .outs
 
   abbrev pub Loops : ℕ → Type 0
-  Loops i = formOf (eventAt r i .bytes) ≡ Kind.Loopback
+  Loops i = Looped (worldAt r i) (eventAt r i)
 
   abbrev pub Proposed : ℕ → Content → Type 0
   Proposed zero c = ⊥
@@ -88,25 +86,9 @@ module _ (r : Course) where
   abbrev pub traceOf : Trace
   traceOf = record { proposed = Proposed; made = Made; processed = Processed; found = Found }
 
--- ---- the largest high round
-
-largest-in : (f : ℕ → ℕ) (p : ℕ) (ps : List ℕ) → member p ps ≡ true → f p ≤ largest (map f ps)
-unfolding member largest
-largest-in f p [] e = absurd (let z : _≡_ {A = ℕ} 0 1 = cc in omega arith)
-largest-in f p (q ∷ ps) e = cases (eqb p q) refl e (λ k. largest-in f p ps k)
-  where
-    cases : (b : Bool) → eqb p q ≡ b → (b || member p ps) ≡ true → (member p ps ≡ true → f p ≤ largest (map f ps)) → f p ≤ max (f q) (largest (map f ps))
-    cases true g h k = rw (eqb-true p q g) (omega arith)
-    cases false g h k = omega (arith, k h)
-
-set-in : (b : Bool) → _≡_ {A = ℕ} (cond b 1 0) 1 → b ≡ true
-set-in true h = refl
-set-in false h = absurd (omega arith)
-
-pub highest-most : (names : ℕ) (highs : List ℕ) (p : ℕ) → isIn (words (signers names)) p ≡ 1 → getD highs p 0 ≤ highestOf names highs
+highest-most : (names : ℕ) (highs : List ℕ) (p : ℕ) → isIn (words (signers names)) p ≡ 1 → getD highs p 0 ≤ highestOf names highs
 unfolding highestOf
-highest-most names highs p b =
-    largest-in (λ (q : ℕ). getD highs q 0) p (placesOf names) (set-in (member p (placesOf names)) (sym (word-bits (signers names) p) ∙ b))
+highest-most names highs p b = largest-places (λ (q : ℕ). getD highs q 0) (signers names) p b
 
 module _ (M : Members) (C : Cabinets M) (p : ℕ) (o : Sits M p) where
   abbrev r : Course
@@ -114,14 +96,14 @@ module _ (M : Members) (C : Cabinets M) (p : ℕ) (o : Sits M p) where
 
   -- ---- where the block of a LOOPBACK comes from
 
-  from-held : (i : ℕ) (s : Split (originOf r) (r .stages) i) → Held (moment M C p o i s) → (j : ℕ) × (j < suc i) × Offered (traceOf r) j (contentOf (blockIn r i))
+  from-held : (i : ℕ) (s : Split (origin r) (r .stages) i) → Held (moment M C p o i s) → (j : ℕ) × (j < suc i) × Offered (traceOf r) j (contentOf (blockIn r i))
   from-held i s h =
       let e = h .earlier in
       let rest = e .rest ++ (stageAt r i ∷ s .rest) in
       let whole : r .stages ≡ e .past ++ (e .stage ∷ rest) =
       s .is ∙ ap (λ (l : List Stage). l ++ (stageAt r i ∷ s .rest)) (e .is) ∙ append-assoc (e .past) (e .stage ∷ e .rest) (stageAt r i ∷ s .rest) in
       let j = length (e .past) in
-      let w : worldAt r j ≡ worldPast (originOf r) (e .past) = rw whole (at-past (originOf r) (e .past) (e .stage ∷ rest)) in
+      let w : worldAt r j ≡ worldAfter (origin r) (e .past) = rw whole (at-past (origin r) (e .past) (e .stage ∷ rest)) in
       let v : stageAt r j ≡ e .stage = rw whole (ev-past (e .past) (e .stage) rest) in
       let u : eventAt r j ≡ e .stage .event = ap (λ (x : Stage). x .event) v in
       let k : Passed (worldAt r j) (eventAt r j) = rw (w, u) (h .passed) in
@@ -129,22 +111,22 @@ module _ (M : Members) (C : Cabinets M) (p : ℕ) (o : Sits M p) where
       let l : length (e .past) < length (s .past) = rw (e .is, length-append (e .past) (e .stage ∷ e .rest)) (omega arith) in
       (suc j, omega (arith, s .long), inl (k, c))
 
-  from-order : (i : ℕ) (s : Split (originOf r) (r .stages) i) → Loops r i → Ordered (moment M C p o i s) → (j : ℕ) × (j < suc i) × Offered (traceOf r) j (contentOf (blockIn r i))
+  from-order : (i : ℕ) (s : Split (origin r) (r .stages) i) → Loops r i → Ordered (moment M C p o i s) → (j : ℕ) × (j < suc i) × Offered (traceOf r) j (contentOf (blockIn r i))
   from-order i s f h =
       ⊎-elim
       (λ (u : Written (h .order) (stepOn (r .lent) (r .start) .outs)). (0, omega arith, inr (h .order, u, h .made, (i, f, refl))))
-      (λ (u : Written (h .order) (outsPast (originOf r) (s .past))).
-      let x = outs-find (originOf r) (s .past) (stageAt r i ∷ s .rest) u in
+      (λ (u : Written (h .order) (outsOf (origin r) (s .past))).
+      let x = outs-find (origin r) (s .past) (stageAt r i ∷ s .rest) u in
       let y : Written (h .order) (resultAt r (x .0) .outs) = rw (← s .is) at (x .2) in
       (suc (x .0), omega (arith, s .long, x .1), inr (h .order, y, h .made, (i, f, refl))))
-      (written-either (stepOn (r .lent) (r .start) .outs) (outsPast (originOf r) (s .past)) (h .told))
+      (written-either (stepOn (r .lent) (r .start) .outs) (outsOf (origin r) (s .past)) (h .told))
 
   loop-source : (i : ℕ) → Loops r i → (j : ℕ) × (j < suc i) × Offered (traceOf r) j (contentOf (blockIn r i))
   loop-source i f =
       ⊎-elim
       (λ s. ⊎-elim (from-held i s) (from-order i s f) (C .loopbacks p o (moment M C p o i s) f))
-      (λ z. absurd (idle-kind Kind.Loopback (stageAt r i) z f (λ y. let x : _≡_ {A = ℕ} 0 1 = cc in omega arith)))
-      (split (originOf r) (r .stages) i)
+      (λ z. absurd (let x : Kind.Loopback ≡ Kind.Bad = sym (f .kind) ∙ idle-bad (stageAt r i) z in let y : _≡_ {A = ℕ} 0 1 = cc in omega arith))
+      (split (origin r) (r .stages) i)
 
   source : (i : ℕ) (c : Content) → Processed r i c → Proposed r i c ⊎ ((j : ℕ) × (j < i) × Offered (traceOf r) j c)
   source zero c g = absurd g
@@ -162,17 +144,17 @@ module _ (M : Members) (C : Cabinets M) (p : ℕ) (o : Sits M p) where
 
   high-by : (i : ℕ) → coreBy i .«high_qc» .round .0 ≡ highOf (before r (suc i))
   high-by zero =
-      let h : highOf (originOf r) ≡ 0 = ap (λ (x : Result). highOf (x .world)) (beginning r .is) in
+      let h : highOf (origin r) ≡ 0 = ap (λ (x : Result). highOf (x .world)) (course-starts r .is) in
       rw (world-first r) (sym h)
   high-by (suc i) = rw (core-next r i) refl
 
   makes-by : (i : ℕ) → Every (Writes (M .stakes) (signs M) (coreBy i)) (outsBy r i)
-  makes-by zero = honest-start M C p o
-  makes-by (suc i) = honest-at M C p o i .outs
+  makes-by zero = good-start M C p o
+  makes-by (suc i) = good-at M C p o i .outs
 
   true-by : (i : ℕ) → (isGenesis (coreBy i .«high_qc» .hash) (coreBy i .«high_qc» .round .0) ≡ false → Backs (M .stakes) (signs M) (coreBy i .«high_qc» .hash) (coreBy i .«high_qc» .round .0))
   true-by zero = high-backs (M .stakes) (signs M) (kept-new (M .stakes) (signs M))
-  true-by (suc i) = high-backs (M .stakes) (signs M) (honest-at M C p o i .state)
+  true-by (suc i) = high-backs (M .stakes) (signs M) (good-at M C p o i .state)
 
   -- the certificates of a block made from a record a, where the high QC is c's
   record Sourced (c : Core) (b : Content) : Type 0 where
@@ -222,7 +204,7 @@ module _ (M : Members) (C : Cabinets M) (p : ℕ) (o : Sits M p) where
       let part = qcPart bytes blockQC in
       let h : hashAt part 0 ≡ b .«qc_hash» = qc-part-hash bytes blockQC ∙ sym (block-qc-hash bytes) in
       let n : numAt 8 part 32 ≡ b .«qc_round» .0 = qc-part-round bytes blockQC ∙ sym (block-qc-round bytes) in
-      let a = rw (committee-at M C p o i) at (passed-qc (worldAt r i) (eventAt r i) (beginning r .total) (started-at r i) k) in
+      let a = rw (committee-at M C p o i) at (passed-qc (worldAt r i) (eventAt r i) (total r) (started-at r i) k) in
       let x : Backs (M .stakes) (signs M) (hashAt part 0) (numAt 8 part 32) =
       embedded-backs (M .stakes) (signs M) part (a .0) (sure-at M C p o i .block-qc (k .kind)) (a .1) (rw (h, n) g) in
       certified M (b .«qc_hash») (b .«qc_round» .0) (rw (h, n) at x)
@@ -237,7 +219,7 @@ module _ (M : Members) (C : Cabinets M) (p : ℕ) (o : Sits M p) where
           let part = tcPart bytes (b .tc) in
           let n : numAt 8 part 0 ≡ b .«tc_round» .0 = tc-part-round bytes (b .tc) ∙ sym (block-tc-round bytes ne) in
           let most : b .«tc_high» .0 ≡ largestHigh part = block-tc-high bytes ne in
-          let a = rw (committee-at M C p o i) at (passed-tc (worldAt r i) (eventAt r i) (beginning r .total) (started-at r i) k ne) in
+          let a = rw (committee-at M C p o i) at (passed-tc (worldAt r i) (eventAt r i) (total r) (started-at r i) k ne) in
           let x : Closes (M .stakes) (signs M) (numAt 8 part 0) (a .0) (highsOf part) =
           tc-closes (M .stakes) (signs M) part (a .0) (sure-at M C p o i .block-tc (k .kind) ne) (a .1) in
           ended M (b .«tc_round» .0) (b .«tc_high» .0) (a .0) (highsOf part) (rw n at x) (λ j c. omega (arith, highs-le part j, most))
@@ -250,7 +232,7 @@ module _ (M : Members) (C : Cabinets M) (p : ℕ) (o : Sits M p) where
   offered-high zero c (inl g) = absurd g
   offered-high (suc i) c (inl g) =
       let e : blockIn r i .«qc_round» .0 ≡ c .qcRound = ap (λ (x : Content). x .qcRound) (g .1) in
-      rw (core-next r i) (omega (arith, passed-high (worldAt r i) (eventAt r i) (beginning r .total) (started-at r i) (g .0)))
+      rw (core-next r i) (omega (arith, passed-high (worldAt r i) (eventAt r i) (total r) (started-at r i) (g .0)))
   offered-high i c (inr g) = omega (arith, sourced-by i c g .round, high-by i)
 
   offered-qc : (i : ℕ) (c : Content) → Offered (traceOf r) i c → TrueQc (partyOf M) (c .qcHash) (c .qcRound)
@@ -267,17 +249,17 @@ module _ (M : Members) (C : Cabinets M) (p : ℕ) (o : Sits M p) where
 
   voting : (i : ℕ) (d : Hash) (n : ℕ) → Casts r i d n → Voting (traceOf r) (lifeOf r) i d n
   voting zero d n c = absurd c
-  voting (suc i) d n c = cases (treats (worldAt r i) (eventAt r i) (beginning r .total) (started-at r i))
+  voting (suc i) d n c = cases (brings (worldAt r i) (eventAt r i) (total r) (started-at r i))
     where
       by : Passed (worldAt r i) (eventAt r i) ⊎ Loops r i → Voting (traceOf r) (lifeOf r) (suc i) d n
       by g =
           let w = worldAt r i in
           let e = eventAt r i in
-          let t = beginning r .total in
+          let t = total r in
           let s = started-at r i in
           let b = blockIn r i in
           let x = laws.vote-block w e t s (c .1) in
-          let y = laws.vote-current w e t s (c .1) (ordered-at r i) in
+          let y = laws.vote-current w e t s (c .1) (ordered-at r i .high) in
           record {
             content = contentOf b;
             goes = (g, refl);
@@ -294,7 +276,7 @@ module _ (M : Members) (C : Cabinets M) (p : ℕ) (o : Sits M p) where
                 (laws.vote-rule w e t s (c .1));
           }
 
-      cases : Treats (worldAt r i) (eventAt r i) → Voting (traceOf r) (lifeOf r) (suc i) d n
+      cases : Brings (worldAt r i) (eventAt r i) → Voting (traceOf r) (lifeOf r) (suc i) d n
       cases (proposes k) = by (inl k)
       cases (loops f) = by (inr f)
       cases (idles k) = absurd (k .votes (c .1))
@@ -305,19 +287,19 @@ module _ (M : Members) (C : Cabinets M) (p : ℕ) (o : Sits M p) where
   Source s = (j : ℕ) × (c : Content) × (slotOf c ≡ s) × Offered (traceOf r) j c
 
   next-slots : (i : ℕ) → ((s : Slot) → Has (worldAt r i .table) s → Source s) → (s : Slot) → Has (resultAt r i .world .table) s → Source s
-  next-slots i known s h = cases (treats (worldAt r i) (eventAt r i) (beginning r .total) (started-at r i))
+  next-slots i known s h = cases (brings (worldAt r i) (eventAt r i) (total r) (started-at r i))
     where
       new : (s ≡ slotFor (blockIn r i)) ⊎ Has (worldAt r i .table) s
-      new = stores-has (worldAt r i .table) (resultAt r i .world .table) (slotFor (blockIn r i)) s (laws.table-stores (worldAt r i) (eventAt r i) (beginning r .total) (started-at r i)) h
+      new = laws.table-has (worldAt r i) (eventAt r i) (total r) (started-at r i) s h
 
-      cases : Treats (worldAt r i) (eventAt r i) → Source s
+      cases : Brings (worldAt r i) (eventAt r i) → Source s
       cases (proposes k) = ⊎-elim (λ e. (suc i, contentOf (blockIn r i), sym e, inl (k, refl))) (known s) new
       cases (loops f) = ⊎-elim (λ e. let x = loop-source i f in (x .0, contentOf (blockIn r i), sym e, x .2)) (known s) new
       cases (idles k) = known s (rw (k .table) at h)
 
   first-slots : (s : Slot) → Has (worldAt r 0 .table) s → Source s
   first-slots s h =
-      let e : originOf r .table ≡ cleared (r .lent .table) = ap (λ (x : Result). x .world .table) (beginning r .is) in
+      let e : origin r .table ≡ cleared (r .lent .table) = ap (λ (x : Result). x .world .table) (course-starts r .is) in
       absurd (cleared-has (r .lent .table) s (rw (world-first r, e) at h))
 
   slots : (i : ℕ) (s : Slot) → Has (worldAt r i .table) s → Source s
@@ -332,9 +314,8 @@ module _ (M : Members) (C : Cabinets M) (p : ℕ) (o : Sits M p) where
   -- ---- commits
 
   commits : (i : ℕ) → ((lifeOf r .commits i ≡ []) × (lifeOf r .committed (suc i) ≡ lifeOf r .committed i) × (lifeOf r .records i ≡ [])) ⊎ Committing (traceOf r) (lifeOf r) i
-  unfolding walkOf
   commits zero = inl (refl, rw (world-first r) refl, refl)
-  commits (suc i) = cases (treats (worldAt r i) (eventAt r i) (beginning r .total) (started-at r i))
+  commits (suc i) = cases (brings (worldAt r i) (eventAt r i) (total r) (started-at r i))
     where
       empty : (bs : List Slot) → [] ≡ map commitRec bs → bs ≡ []
       empty [] e = refl
@@ -347,33 +328,35 @@ module _ (M : Members) (C : Cabinets M) (p : ℕ) (o : Sits M p) where
           → Deliveries (slotFor (blockIn r i)) (worldAt r i .table) (resultAt r i .world .table) (committedOf (worldAt r i)) (deliveriesAt r i .blocks) (committedOf (resultAt r i .world)) → Done
       by g (none e f) = inl (rw e refl, rw (core-next r i) f, deliveriesAt r i .are ∙ ap (map commitRec) e)
       by g (some k) =
-          let c = commits-on k in
+          let t = worldAt r i .table in
+          let b = slotFor (blockIn r i) in
+          let c = line t b (k .found) (omega (arith, k .newer)) (omega (arith, k .next)) in
           inr (record {
             content = contentOf (blockIn r i);
             goes = (g, refl);
-            b1 = c .b1;
+            b1 = ancestorsOf t b .b1;
             other1 = c .other1;
             on1 = c .on1;
             found1 = inl (c .has1);
-            b0 = c .b0;
+            b0 = ancestorsOf t b .b0;
             other0 = c .other0;
             on0 = c .on0;
             found0 = inl (c .has0);
-            consecutive = c .next;
-            newer = c .newer;
+            consecutive = omega (arith, k .next);
+            newer = k .newer;
             slots = deliveriesAt r i .blocks;
-            walk = walk-slots (traceOf r) (suc i) (resultAt r i .world .table) (λ s h. inr h) (committedOf (worldAt r i)) (suc (length (resultAt r i .world .table))) (c .b0) (deliveriesAt r i .blocks) (c .walk);
+            walk = walked-as (λ s h. inr h) (walk-slots (resultAt r i .world .table) (committedOf (worldAt r i)) (ancestorsOf t b .b0) (deliveriesAt r i .blocks) (k .walk));
             written = refl;
             recorded = deliveriesAt r i .are;
-            kept = rw (core-next r i) (c .last);
+            kept = rw (core-next r i) (k .last);
           })
 
-      cases : Treats (worldAt r i) (eventAt r i) → Done
+      cases : Brings (worldAt r i) (eventAt r i) → Done
       cases (proposes k) = by (inl k) (deliveriesAt r i .by)
       cases (loops f) = by (inr f) (deliveriesAt r i .by)
       cases (idles k) =
           let e : deliveriesAt r i .blocks ≡ [] = empty (deliveriesAt r i .blocks) (sym (k .commits) ∙ deliveriesAt r i .are) in
-          inl (rw e refl, rw (core-next r i) (laws.commit-none (worldAt r i) (eventAt r i) (beginning r .total) (started-at r i) (k .commits)), k .commits)
+          inl (rw e refl, rw (core-next r i) (laws.commit-none (worldAt r i) (eventAt r i) (total r) (started-at r i) (k .commits)), k .commits)
 
   -- The course of a member that obeys keeps all that is asked of a life.
   pub keeps : Keeps (partyOf M) (lifeOf r) (traceOf r)
@@ -386,7 +369,7 @@ module _ (M : Members) (C : Cabinets M) (p : ℕ) (o : Sits M p) where
         offered-high = offered-high;
         offered-qc = offered-qc;
         offered-tc = offered-tc;
-        start = ap (λ (x : Result). committedOf (x .world)) (beginning r .is);
+        start = ap (λ (x : Result). committedOf (x .world)) (course-starts r .is);
         commit = commits;
         stored = stored;
         source = source;

@@ -1,84 +1,57 @@
--- Over the course of a member that obeys: tallies are true, the high QC is genesis or certified, and the certificates of MAKE are true. Premises: `Cabinets`, of which
--- only the results count here. Assumes nothing.
---     Votes, Expires M             what is signed, of those that obey
---     sure-at                      the results of an event are true
---     true-at, honest-at           the invariant, and what each event writes
---     partyOf M                    the members as lives
+-- Over the course of a member that obeys: the names in tallies, in the high QC and in the certificates of MAKE are those of members that signed. Premises: `Cabinets`, of
+-- which only the results count here. Assumes nothing.
+--     signs M                      what is signed, of those that obey
 --     certified, ended             what is backed is certified; what is closed is ended
-use Prim.Native.Nat.{ℕ, zero, suc, _≤_, _<_}
-use mathlib.Core.Bool.{Bool, true, false}
-use mathlib.Core.List.{List, [], _∷_, _++_}
-use mathlib.Core.Logic.{_⊎_, inl, inr, ⊎-elim}
+--     committee-at, own-at         the committee is M's, and the place is the member's
+--     moment                       event i as a moment
+--     sure-at                      the results of an event are true
+--     kept-at, good-at, good-start     the invariant, and what each event and START write
+use Prim.Native.Nat.{ℕ, zero, suc, _≤_}
+use mathlib.Core.List.{List}
+use mathlib.Core.Logic.{⊎-elim}
 use mathlib.Core.Path.{_≡_, refl, sym, ap, _∙_}
-use native.Mathlib.Omega.{arith}
-use lib.ListN.{length, getD}
+use lib.ListN.{getD}
 use Rattle.certificates.specs.declared.numbers.Hash.{Hash}
 use Rattle.certificates.specs.declared.numbers.Signers.{Signers}
 use Rattle.certificates.specs.declared.messages.QC.{QC}
-use Rattle.certificates.specs.Signers.{isIn, words, weightOf}
-use Rattle.certificates.proofs.ConfigLaws.{stake-member}
-use Rattle.trace.specs.declared.events.Kind.{Kind}
-use Rattle.trace.specs.Form.{formOf}
-use Rattle.trace.proofs.Forms.{form-short}
-use Rattle.outputs.specs.Records.{Rec, vote, timeout}
+use Rattle.certificates.specs.Signers.{isIn, words}
+use Rattle.outputs.specs.Records.{vote, timeout}
 use Rattle.replica.specs.Started.{membersOf}
-use Rattle.replica.specs.Step.{World, Result, committee, newCore, newState, newSeat, newStakes, startOuts}
+use Rattle.replica.specs.Step.{Result, committee, newCore, newState, newSeat, newStakes}
 use Rattle.runs.specs.Runs.{stepOn, Written}
+use Rattle.runs.specs.Courses.{Course, origin, Moment}
+use Rattle.runs.specs.Lives.{Certified, Ended}
+use Rattle.runs.specs.Signed.{Members, Sits, Signed, Expired}
 use Rattle.runs.proofs.Kept.{Signatures, Every, Backs, Closes, Kept, Writes, Good, kept-new, writes-announced}
-use Rattle.runs.proofs.Results.{SureEvent, good-step}
-use Rattle.runs.proofs.Tallied.{Quorate}
+use Rattle.runs.proofs.Results.{SureEvent, sure-bad, good-step}
 use Rattle.runs.proofs.Steps.{stepIn}
-use Rattle.cabinets.specs.Courses.{Stage, Course, originOf}
-use Rattle.cabinets.specs.Moments.{Moment}
-use Rattle.cabinets.specs.Ledgers.{Members, Sits, Signed, Expired, Truthful, Cabinets}
-use Rattle.cabinets.proofs.Lives as lives
-use Rattle.cabinets.proofs.Lives.{Party, Sitting, Quorum, Certified, Ended}
-use Rattle.cabinets.proofs.Restart.{leaves-true}
-use Rattle.cabinets.proofs.Time.{idle, Split, split}
-use Rattle.cabinets.proofs.CourseLives.{worldAt, stageAt, eventAt, beginning, resultAt, world-first, world-next, started-at, seat-at, lifeOf, signed-at, written-at}
-
--- an event that is idle is of no kind
-pub idle-kind : {A : Type 0} (k : Kind) (e : Stage) → e ≡ idle → formOf (e .event .bytes) ≡ k → (Kind.Bad ≡ k → A) → A
-idle-kind k e z f g =
-    let a : formOf (e .event .bytes) ≡ formOf [] = ap (λ (x : Stage). formOf (x .event .bytes)) z in
-    g (form-short [] (omega arith) ∙ sym a ∙ f)
+use Rattle.runs.proofs.Restart.{leaves-kept}
+use Rattle.runs.proofs.Rounds.{course-starts}
+use Rattle.runs.proofs.Time.{idle, idle-bad, Split, split}
+use Rattle.runs.proofs.CourseLives.{worldAt, stageAt, eventAt, total, resultAt, world-first, world-next, started-at, seat-at, written-at}
+use Rattle.runs.proofs.Parties.{partyOf, sits, cast, expired, quorum-of}
+use Rattle.cabinets.specs.Ledgers.{Cabinets}
 
 module _ (M : Members) where
   abbrev pub signs : Signatures
   signs = record { votes = λ p h n. Sits M p → Signed M p h n; expires = λ p t h. Sits M p → Expired M p t h }
 
-  abbrev pub partyOf : Party
-  partyOf = record { stakes = M .stakes; breakers = M .breakers; life = λ p. lifeOf (M .course p) }
-
-  pub sits : (p : ℕ) → Sitting partyOf p → Sits M p
-  sits p s = record { member = s .member; obeys = s .obeys }
-
-  quorum-of : (s : Signers) → Quorate (M .stakes) s → Quorum partyOf (words s)
-  unfolding weightOf
-  quorum-of s q = record { enough = q .quorum; members = λ p b. stake-member (M .stakes) p (q .members p b .stake) }
-
   -- what is backed is certified
-  pub certified : (h : Hash) (n : ℕ) → Backs (M .stakes) signs h n → Certified partyOf h n
+  pub certified : (h : Hash) (n : ℕ) → Backs (M .stakes) signs h n → Certified (partyOf M) h n
   certified h n b =
       record {
         signers = words (b .names);
-        quorum = quorum-of (b .names) (b .quorum);
-        signed = λ p i o.
-            let s = b .signed p i (sits p o) in
-            let x = signed-at (M .course p) refl (s .written) in
-            (suc (x .0), (s .to, x .1));
+        quorum = quorum-of M (b .names) (b .quorum);
+        signed = λ p i o. cast M (b .signed p i (sits M p o));
       }
 
   -- what is closed is ended
-  pub ended : (t q : ℕ) (names : Signers) (highs : List ℕ) → Closes (M .stakes) signs t names highs → ((p : ℕ) → isIn (words names) p ≡ 1 → getD highs p 0 ≤ q) → Ended partyOf t q
+  pub ended : (t q : ℕ) (names : Signers) (highs : List ℕ) → Closes (M .stakes) signs t names highs → ((p : ℕ) → isIn (words names) p ≡ 1 → getD highs p 0 ≤ q) → Ended (partyOf M) t q
   ended t q names highs c most =
       record {
         signers = words names;
-        quorum = quorum-of names (c .quorum);
-        signed = λ p i o.
-            let s = c .signed p i (sits p o) in
-            let x = signed-at (M .course p) refl (s .written) in
-            (getD highs p 0, most p i, (suc (x .0), (s .high, s .is, x .1)));
+        quorum = quorum-of M names (c .quorum);
+        signed = λ p i o. (getD highs p 0, most p i, expired M (c .signed p i (sits M p o)));
       }
 
   module _ (C : Cabinets M) (p : ℕ) (o : Sits M p) where
@@ -88,23 +61,20 @@ module _ (M : Members) where
     pub committee-at : (i : ℕ) → committee (worldAt r i) ≡ M .stakes
     committee-at i =
         let s = seat-at r i in
-        let e : committee (worldAt r i) ≡ committee (originOf r) = rw (s .0, s .1) refl in
+        let e : committee (worldAt r i) ≡ committee (origin r) = rw (s .0, s .1) refl in
         e ∙ M .same p (o .member) (o .obeys)
 
     pub own-at : (i : ℕ) → worldAt r i .seat .own .0 ≡ p
     own-at i = rw (seat-at r i .0) (M .seated p (o .member) (o .obeys))
 
     -- event i as a moment, if it is one
-    abbrev pub moment : (i : ℕ) → Split (originOf r) (r .stages) i → Moment r
+    abbrev pub moment : (i : ℕ) → Split (origin r) (r .stages) i → Moment r
     moment i s = record { past = s .past; stage = stageAt r i; rest = s .rest; is = s .is }
 
-    never : {A : Type 0} (i : ℕ) (k : Kind) → stageAt r i ≡ idle → formOf (eventAt r i .bytes) ≡ k → (Kind.Bad ≡ k → ⊥) → A
-    never i k z f g = absurd (idle-kind k (stageAt r i) z f g)
-
     pub sure-at : (i : ℕ) → SureEvent signs (eventAt r i)
-    sure-at i = ⊎-elim by-moment by-idle (split (originOf r) (r .stages) i)
+    sure-at i = ⊎-elim by-moment by-idle (split (origin r) (r .stages) i)
       where
-        by-moment : Split (originOf r) (r .stages) i → SureEvent signs (eventAt r i)
+        by-moment : Split (origin r) (r .stages) i → SureEvent signs (eventAt r i)
         by-moment s =
             let k = C .results p o in
             let m = moment i s in
@@ -118,15 +88,7 @@ module _ (M : Members) where
             }
 
         by-idle : stageAt r i ≡ idle → SureEvent signs (eventAt r i)
-        by-idle z =
-            record {
-              vote = λ f. never i Kind.Vote z f (λ y. let x : _≡_ {A = ℕ} 0 1 = cc in omega arith);
-              timeout = λ f. never i Kind.Timeout z f (λ y. let x : _≡_ {A = ℕ} 0 1 = cc in omega arith);
-              timeout-qc = λ f. never i Kind.Timeout z f (λ y. let x : _≡_ {A = ℕ} 0 1 = cc in omega arith);
-              tc = λ f. never i Kind.Tc z f (λ y. let x : _≡_ {A = ℕ} 0 1 = cc in omega arith);
-              block-qc = λ f. never i Kind.Propose z f (λ y. let x : _≡_ {A = ℕ} 0 1 = cc in omega arith);
-              block-tc = λ f. never i Kind.Propose z f (λ y. let x : _≡_ {A = ℕ} 0 1 = cc in omega arith);
-            }
+        by-idle z = sure-bad signs (eventAt r i) (idle-bad (stageAt r i) z)
 
     mine-votes : (i to n : ℕ) (h : Hash) → Written (vote to h n) (resultAt r i .outs) → signs .votes (worldAt r i .seat .own .0) h n
     mine-votes i to n h v = rw (own-at i) (λ s. record { to = to; written = written-at r i v })
@@ -134,32 +96,32 @@ module _ (M : Members) where
     mine-timeouts : (i u : ℕ) (q : QC) → Written (timeout u q) (resultAt r i .outs) → signs .expires (worldAt r i .seat .own .0) u (q .round .0)
     mine-timeouts i u q v = rw (own-at i) (λ s. record { high = q; is = refl; written = written-at r i v })
 
-    honest-from : (i : ℕ) → Kept (M .stakes) signs (worldAt r i .state) → Good (M .stakes) signs (stepIn (resultAt r i))
-    honest-from i k =
+    good-from : (i : ℕ) → Kept (M .stakes) signs (worldAt r i .state) → Good (M .stakes) signs (stepIn (resultAt r i))
+    good-from i k =
         rw (committee-at i) at
-        (good-step (worldAt r i) (eventAt r i) (beginning r .total) (started-at r i) signs (rw (committee-at i) k) (sure-at i)
+        (good-step (worldAt r i) (eventAt r i) (total r) (started-at r i) signs (rw (committee-at i) k) (sure-at i)
         (record { votes = mine-votes i; expires = mine-timeouts i }))
 
-    true-first : Kept (M .stakes) signs (worldAt r 0 .state)
-    true-first =
-        let e : originOf r .state ≡ newState = ap (λ (x : Result). x .world .state) (beginning r .is) in
+    kept-first : Kept (M .stakes) signs (worldAt r 0 .state)
+    kept-first =
+        let e : origin r .state ≡ newState = ap (λ (x : Result). x .world .state) (course-starts r .is) in
         rw (world-first r, e) (kept-new (M .stakes) signs)
 
-    true-next : (i : ℕ) → Kept (M .stakes) signs (worldAt r i .state) → Kept (M .stakes) signs (worldAt r (suc i) .state)
-    true-next i k = rw (world-next r i) (leaves-true (stageAt r i) (resultAt r i .world) (M .stakes) signs (honest-from i k .state))
+    kept-next : (i : ℕ) → Kept (M .stakes) signs (worldAt r i .state) → Kept (M .stakes) signs (worldAt r (suc i) .state)
+    kept-next i k = rw (world-next r i) (leaves-kept (stageAt r i) (resultAt r i .world) (M .stakes) signs (good-from i k .state))
 
     -- Tallies are true, and the high QC is genesis or backed, all along.
-    pub true-at : (i : ℕ) → Kept (M .stakes) signs (worldAt r i .state)
-    true-at zero = true-first
-    true-at (suc i) = true-next i (true-at i)
+    pub kept-at : (i : ℕ) → Kept (M .stakes) signs (worldAt r i .state)
+    kept-at zero = kept-first
+    kept-at (suc i) = kept-next i (kept-at i)
 
-    pub honest-at : (i : ℕ) → Good (M .stakes) signs (stepIn (resultAt r i))
-    honest-at i = honest-from i (true-at i)
+    pub good-at : (i : ℕ) → Good (M .stakes) signs (stepIn (resultAt r i))
+    good-at i = good-from i (kept-at i)
 
     -- START
-    pub honest-start : Every (Writes (M .stakes) signs newCore) (stepOn (r .lent) (r .start) .outs)
-    honest-start =
-        let e = beginning r .is in
-        let c : committee (originOf r) ≡ membersOf (newSeat (r .start .bytes)) (newStakes (r .start .bytes)) = ap (λ (x : Result). committee (x .world)) e in
+    pub good-start : Every (Writes (M .stakes) signs newCore) (stepOn (r .lent) (r .start) .outs)
+    good-start =
+        let e = course-starts r .is in
+        let c : committee (origin r) ≡ membersOf (newSeat (r .start .bytes)) (newStakes (r .start .bytes)) = ap (λ (x : Result). committee (x .world)) e in
         let d : membersOf (newSeat (r .start .bytes)) (newStakes (r .start .bytes)) ≡ M .stakes = sym c ∙ M .same p (o .member) (o .obeys) in
         rw (ap (λ (x : Result). x .outs) e, d) (writes-announced (M .stakes) signs (newSeat (r .start .bytes) .own .0))

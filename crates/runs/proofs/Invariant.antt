@@ -11,7 +11,7 @@
 --     course-certificates         all certificates that a course writes pass the check
 --     made-qc-accepted, made-tc-accepted     those that its tallies make, at the moment they are made
 use Prim.Native.Nat.{ℕ, _<_}
-use mathlib.Core.Bool.{Bool, true, false, cond}
+use mathlib.Core.Bool.{true, false}
 use mathlib.Core.List.{List, [], _∷_}
 use mathlib.Core.Path.{_≡_, refl, sym, _∙_}
 use native.Mathlib.Omega.{arith}
@@ -43,13 +43,14 @@ use Rattle.replica.specs.Started.{membersOf, shaped, lightIn, startedOf}
 use Rattle.replica.specs.Step.{World, Result, newSeat, newStakes, committee, started}
 use Rattle.replica.proofs.StartedLaws.{sized-all, shaped-all}
 use Rattle.runs.specs.Runs.{Event, stepOn, Begun, Written}
-use Rattle.runs.specs.Courses.{Stage, putBack, next, worldAfter, outsOf, Course, origin, end, outputs}
+use Rattle.runs.specs.Courses.{Stage, next, worldAfter, outsOf, Course, origin, end, outputs}
 use Rattle.runs.specs.Signed.{Sends, GoodTC, qcBytes}
 use Rattle.runs.proofs.Steps.{step-lawful, starts}
 use Rattle.runs.proofs.Tallied.{Tallied, tallied-light}
 use Rattle.runs.proofs.Certificates.{quorate-qc, quorate-tc}
-use Rattle.runs.proofs.Kept.{Signatures, unknown, VotesIn, ExpiresIn, Every, none, every-append, every-map, every-written, Backed, first, backed, Kept, kept-new, kept-emptied, writes-announced, vote-quorate, timeout-quorate}
+use Rattle.runs.proofs.Kept.{Signatures, unknown, VotesIn, ExpiresIn, Every, none, every-append, every-map, every-written, Backed, first, backed, Kept, kept-new, writes-announced, vote-quorate, timeout-quorate}
 use Rattle.runs.proofs.Results.{good-any}
+use Rattle.runs.proofs.Restart.{leaves-seat, leaves-kept}
 
 pub record Invariant (seat : Seat) (stakes : List ℕ) (w : World) : Type 0 where
   -- count, own place and stakes are as START left them, within the limits
@@ -131,21 +132,20 @@ module _ {seat : Seat} {stakes : List ℕ} where
         outs = every-map (λ r h. h .sends) (a .outs);
       }
 
-  back-by : (b : Bool) (w : World) → Invariant seat stakes w → Invariant seat stakes (cond b (putBack w) w)
-  back-by true w i =
-      record {
-        seated = i .seated;
-        staked = i .staked;
-        shape = i .shape;
-        total = i .total;
-        setup = i .setup;
-        state = kept-emptied (membersOf seat stakes) unknown (i .state);
-      }
-  back-by false w i = i
-
   -- A restart keeps it too.
   pub invariant-next : (w : World) → Invariant seat stakes w → (g : Stage) → Invariant seat stakes (next w g)
-  invariant-next w i g = back-by (g .cut) (stepOn w (g .event) .world) (invariant-step w i (g .event) .world)
+  invariant-next w i g =
+      let x = stepOn w (g .event) .world in
+      let k = invariant-step w i (g .event) .world in
+      let l = leaves-seat g x in
+      record {
+        seated = l .0 ∙ k .seated;
+        staked = l .1 ∙ k .staked;
+        shape = k .shape;
+        total = k .total;
+        setup = k .setup;
+        state = leaves-kept g x (membersOf seat stakes) unknown (k .state);
+      }
 
   invariant-stages : (w : World) → Invariant seat stakes w → (ss : List Stage) → Invariant seat stakes (worldAfter w ss)
   unfolding worldAfter

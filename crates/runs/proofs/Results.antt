@@ -1,13 +1,13 @@
 -- One event is `Good`, from a world that counts as started and a state that is `Kept`, where the results that come with it are true and what it signs counts as signed.
 -- w is the world before the event e, g what is known of who signed. Assumes nothing.
---     SureEvent g e                the results that come with the event are true
+--     SureEvent g e, sure-bad      the results that come with the event are true; a record without a form brings none
 --     good-step                    every event
 --     good-any                     every event, whatever the results are
 --     make-high, make-with-high    L4: MAKE's QC is the high QC after the event, and its TC has a quorum; no premise on results
 use Prim.Native.Nat.{ℕ, zero, suc, _≤_}
 use mathlib.Core.Bool.{Bool, true, false, cond}
 use mathlib.Core.List.{List, _∷_}
-use mathlib.Core.Path.{_≡_, refl, _∙_}
+use mathlib.Core.Path.{_≡_, refl, sym, _∙_}
 use native.Mathlib.Omega.{arith}
 use borrow.Author.Tests.{ltb-false}
 use lib.Dec.{ltb}
@@ -40,6 +40,18 @@ pub record SureEvent (g : Signatures) (e : Event) : Type 0 where
   pub tc : formOf (e .bytes) ≡ Kind.Tc → SureTC g (tcPart (e .bytes) tcBody)
   pub block-qc : formOf (e .bytes) ≡ Kind.Propose → SureQC g (qcPart (e .bytes) blockQC)
   pub block-tc : formOf (e .bytes) ≡ Kind.Propose → (blockOf (e .bytes) .tc ≡ 0 → ⊥) → SureTC g (tcPart (e .bytes) (blockOf (e .bytes) .tc))
+
+-- a record without a form brings none
+pub sure-bad : (g : Signatures) (e : Event) → formOf (e .bytes) ≡ Kind.Bad → SureEvent g e
+sure-bad g e z =
+    record {
+      vote = λ f. absurd (let x : Kind.Vote ≡ Kind.Bad = sym f ∙ z in let y : _≡_ {A = ℕ} 0 1 = cc in omega arith);
+      timeout = λ f. absurd (let x : Kind.Timeout ≡ Kind.Bad = sym f ∙ z in let y : _≡_ {A = ℕ} 0 1 = cc in omega arith);
+      timeout-qc = λ f. absurd (let x : Kind.Timeout ≡ Kind.Bad = sym f ∙ z in let y : _≡_ {A = ℕ} 0 1 = cc in omega arith);
+      tc = λ f. absurd (let x : Kind.Tc ≡ Kind.Bad = sym f ∙ z in let y : _≡_ {A = ℕ} 0 1 = cc in omega arith);
+      block-qc = λ f. absurd (let x : Kind.Propose ≡ Kind.Bad = sym f ∙ z in let y : _≡_ {A = ℕ} 0 1 = cc in omega arith);
+      block-tc = λ f. absurd (let x : Kind.Propose ≡ Kind.Bad = sym f ∙ z in let y : _≡_ {A = ℕ} 0 1 = cc in omega arith);
+    }
 
 -- a mark of a record that has its form is 0 or 1
 small-mark : (x : ℕ) (xs : List ℕ) → anyAbove 1 (x ∷ xs) ≡ false → (x ≡ 0 → ⊥) → x ≡ 1

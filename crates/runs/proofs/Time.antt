@@ -1,5 +1,5 @@
 -- The stages of a course by number. Past its last stage a course goes on with records that are refused and change nothing, so that every number is a moment. Assumes nothing.
---     idle, step-idle               such a record, and that it changes nothing
+--     idle, step-idle, idle-bad     such a record, that it changes nothing, and that it is of no kind
 --     at w es i, ev es i, gives     the world that moment i finds, its event, what it gives
 --     at-zero, at-next              the first, and the next
 --     at-past, ev-past              by what came before
@@ -15,6 +15,8 @@ use mathlib.Core.Path.{_≡_, refl, sym, ap, _∙_}
 use native.Mathlib.Omega.{arith}
 use lib.ListN.{length}
 use Rattle.certificates.specs.Error.{badRecord}
+use Rattle.trace.specs.declared.events.Kind.{Kind}
+use Rattle.trace.specs.Form.{formOf}
 use Rattle.trace.proofs.Forms.{form-short}
 use Rattle.outputs.specs.Records.{Rec}
 use Rattle.replica.specs.Step.{World, Result, refusedIn}
@@ -29,6 +31,10 @@ idle = record { event = record { room = 0; bytes = [] }; cut = false }
 
 pub step-idle : (w : World) → stepOn w (idle .event) ≡ refusedIn badRecord w
 step-idle w = bad-record w 0 [] (sym (form-short [] (omega arith)))
+
+-- it is of no kind
+pub idle-bad : (e : Stage) → e ≡ idle → formOf (e .event .bytes) ≡ Kind.Bad
+idle-bad e z = ap (λ (x : Stage). formOf (x .event .bytes)) z ∙ sym (form-short [] (omega arith))
 
 unfoldable pub at : World → List Stage → ℕ → World
 at w [] i = w

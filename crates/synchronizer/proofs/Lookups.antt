@@ -5,6 +5,7 @@
 --     parent-has, parent-genesis     the parent of a block, by its QC
 --     stored-has, cleared-has  what is in a table after a store, and after it is cleared
 --     Walked Found l s ss      the walk from s down to round l goes over slots that are Found, and delivers ss
+--     walked-as                .. over slots that are known, where those that are found are
 --     walk-slots               a walk that delivers goes over slots of the table
 --     walk-delivers            a walk delivers where every parent is found and is of a lower round
 --     Closed t                 every parent of a slot in use is in the table
@@ -250,6 +251,12 @@ pub data Walked (Found : Slot → Type 0) (l : ℕ) : Slot → List Slot → Typ
   stop : {s : Slot} (c : Slot) → isGenesis (s .parent) (s .«parent_round» .0) ≡ false → c .digest ≡ s .parent → Found c → c .round .0 ≤ l → Walked Found l s (s ∷ [])
   more : {s : Slot} {ss : List Slot} (c : Slot) → isGenesis (s .parent) (s .«parent_round» .0) ≡ false → c .digest ≡ s .parent → Found c → l < c .round .0
       → Walked Found l c ss → Walked Found l s (ss ++ s ∷ [])
+
+pub walked-as : {Found Known : Slot → Type 0} {l : ℕ} {s : Slot} {ss : List Slot} → ((c : Slot) → Found c → Known c) → Walked Found l s ss → Walked Known l s ss
+walked-as f (near h) = near h
+walked-as f (bottom e) = bottom e
+walked-as f (stop c e d k h) = stop c e d (f c k) h
+walked-as f (more c e d k h w) = more c e d (f c k) h (walked-as f w)
 
 module _ (t : List Slot) (last : ℕ) where
   newer-is : (w : Walk) (b : Slot) (bs : List Slot) → andNewer w b ≡ delivers bs → (cs : List Slot) × (w ≡ delivers cs) × (bs ≡ cs ++ b ∷ [])
