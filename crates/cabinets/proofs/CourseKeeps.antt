@@ -2,7 +2,7 @@
 --     Loops, Proposed, Made, Processed, Found, traceOf r      what happens to blocks in a course
 --     source             LOOPBACK carries what was offered before
 --     stored             the table holds what was offered
---     voting, commits    votes and commits
+--     votes, commits     votes and commits
 --     keeps              all of it
 use Prim.Native.Nat.{ℕ, zero, suc, _+_, _≤_, _<_}
 use mathlib.Core.Bool.{Bool, true, false, cond}
@@ -12,18 +12,17 @@ use mathlib.Core.Path.{_≡_, refl, sym, ap, _∙_}
 use native.Mathlib.Omega.{arith}
 use borrow.Author.Tests.{eqb-false, ne-eqb}
 use lib.Dec.{eqb}
-use lib.ListN.{length, getD, length-append}
+use lib.ListN.{length, length-append}
 use Rattle.certificates.specs.declared.numbers.Hash.{Hash}
 use Rattle.certificates.specs.declared.messages.QC.{QC}
 use Rattle.certificates.specs.Num.{numAt, hashAt}
-use Rattle.certificates.specs.Signers.{isIn, words}
+use Rattle.certificates.specs.Messages.{isGenesis}
 use Rattle.trace.specs.declared.events.Kind.{Kind}
 use Rattle.trace.specs.Fields.{blockOf}
 use Rattle.trace.specs.Layout.{blockQC, qcPart, tcPart, highsOf, largestHigh}
 use Rattle.trace.proofs.PartLaws.{qc-part-hash, qc-part-round, tc-part-round, highs-le}
 use Rattle.trace.proofs.FieldLaws.{block-qc-hash, block-qc-round, block-tc-round, block-tc-high}
 use Rattle.outputs.specs.Records.{Rec, vote, timeout, tc, make, makeWith, commit, sync, cleanProposer, cleanMempool, timerReset, answer}
-use Rattle.aggregator.specs.Tally.{signers}
 use Rattle.synchronizer.specs.declared.table.Slot.{Slot}
 use Rattle.synchronizer.specs.Table.{cleared, ancestorsOf}
 use Rattle.synchronizer.specs.Settle.{commitRec}
@@ -32,28 +31,27 @@ use Rattle.moves.specs.declared.state.Core.{Core}
 use Rattle.handlers.proofs.VoteTheorems.{ExtendsTC}
 use Rattle.replica.specs.Blocks.{slotFor}
 use Rattle.replica.specs.Step.{Result, newCore}
-use Rattle.runs.specs.Runs.{stepOn, Written, committedOf, highOf}
+use Rattle.runs.specs.Runs.{stepOn, Written, roundOf, committedOf, highOf}
 use Rattle.runs.specs.Courses.{Stage, Course, outsOf, worldAfter, origin}
 use Rattle.runs.specs.Passed.{Passed, Looped}
 use Rattle.runs.specs.Lives.{Ended}
 use Rattle.runs.specs.Signed.{Members, Sits}
 use Rattle.runs.proofs.Lists.{written-either}
-use Rattle.runs.proofs.Kept.{Every, every-written, Backs, Closes, Makes, Writes, kept-new, high-backs}
-use Rattle.runs.proofs.Handled.{embedded-backs, tc-closes}
-use Rattle.runs.proofs.Certificates.{largest-places}
+use Rattle.runs.proofs.Kept.{Every, every-written, Backs, Closes, Makes, Writes, Good, kept-new, high-backs}
+use Rattle.runs.proofs.Handled.{SureTC, embedded-backs, tc-closes}
 use Rattle.runs.proofs.Lawful.{Deliveries, none, some}
-use Rattle.runs.proofs.Steps.{tookBy}
+use Rattle.runs.proofs.Steps.{tookBy, stepIn}
 use Rattle.runs.proofs.Brings.{Brings, proposes, loops, idles, brings, passed-high, passed-qc, passed-tc}
 use Rattle.runs.proofs.Laws as laws
 use Rattle.runs.proofs.Restart.{leaves-has}
 use Rattle.runs.proofs.Rounds.{course-starts}
 use Rattle.runs.proofs.Time.{at-past, ev-past, idle-bad, Split, split, outs-find}
-use Rattle.runs.proofs.CourseLives.{worldAt, stageAt, eventAt, total, resultAt, blockIn, world-first, world-next, core-next, started-at, ordered-at, deliveriesAt, before, Casts, lifeOf, careful, high-rises, timeout-high}
+use Rattle.runs.proofs.CourseLives.{worldAt, stageAt, eventAt, total, resultAt, blockIn, world-first, world-next, core-next, started-at, ordered-at, deliveriesAt, before, Casts, lifeOf, careful, round-rises, vote-in-round, high-rises, timeout-high}
 use Rattle.runs.proofs.Parties.{partyOf}
-use Rattle.cabinets.specs.Contents.{without, ends, Content, endingOf, contentOf, highestOf, MadeFrom}
+use Rattle.cabinets.specs.Contents.{Ending, without, ends, Content, endingOf, contentOf, MadeFrom}
 use Rattle.cabinets.specs.Ledgers.{Held, Ordered, Cabinets}
 use Rattle.cabinets.proofs.Events.{slotOf, Trace, Offered, Voting, Committing, TrueQc, TrueTc, Keeps}
-use Rattle.cabinets.proofs.TrueCourses.{signs, certified, ended, committee-at, moment, sure-at, kept-at, good-at, good-start}
+use Rattle.cabinets.proofs.TrueCourses.{voting, signing, certified, ended, committee-at, moment, good-at, good-start, sure-at, mine-at}
 
 module _ (r : Course) where
   -- by event i, or by START
@@ -86,17 +84,13 @@ module _ (r : Course) where
   abbrev pub traceOf : Trace
   traceOf = record { proposed = Proposed; made = Made; processed = Processed; found = Found }
 
-highest-most : (names : ℕ) (highs : List ℕ) (p : ℕ) → isIn (words (signers names)) p ≡ 1 → getD highs p 0 ≤ highestOf names highs
-unfolding highestOf
-highest-most names highs p b = largest-places (λ (q : ℕ). getD highs q 0) (signers names) p b
-
 module _ (M : Members) (C : Cabinets M) (p : ℕ) (o : Sits M p) where
   abbrev r : Course
   r = M .course p
 
   -- ---- where the block of a LOOPBACK comes from
 
-  from-held : (i : ℕ) (s : Split (origin r) (r .stages) i) → Held (moment M C p o i s) → (j : ℕ) × (j < suc i) × Offered (traceOf r) j (contentOf (blockIn r i))
+  from-held : (i : ℕ) (s : Split (origin r) (r .stages) i) → Held (moment M p o i s) → (j : ℕ) × (j < suc i) × Offered (traceOf r) j (contentOf (blockIn r i))
   from-held i s h =
       let e = h .earlier in
       let rest = e .rest ++ (stageAt r i ∷ s .rest) in
@@ -111,7 +105,7 @@ module _ (M : Members) (C : Cabinets M) (p : ℕ) (o : Sits M p) where
       let l : length (e .past) < length (s .past) = rw (e .is, length-append (e .past) (e .stage ∷ e .rest)) (omega arith) in
       (suc j, omega (arith, s .long), inl (k, c))
 
-  from-order : (i : ℕ) (s : Split (origin r) (r .stages) i) → Loops r i → Ordered (moment M C p o i s) → (j : ℕ) × (j < suc i) × Offered (traceOf r) j (contentOf (blockIn r i))
+  from-order : (i : ℕ) (s : Split (origin r) (r .stages) i) → Loops r i → Ordered (moment M p o i s) → (j : ℕ) × (j < suc i) × Offered (traceOf r) j (contentOf (blockIn r i))
   from-order i s f h =
       ⊎-elim
       (λ (u : Written (h .order) (stepOn (r .lent) (r .start) .outs)). (0, omega arith, inr (h .order, u, h .made, (i, f, refl))))
@@ -124,7 +118,7 @@ module _ (M : Members) (C : Cabinets M) (p : ℕ) (o : Sits M p) where
   loop-source : (i : ℕ) → Loops r i → (j : ℕ) × (j < suc i) × Offered (traceOf r) j (contentOf (blockIn r i))
   loop-source i f =
       ⊎-elim
-      (λ s. ⊎-elim (from-held i s) (from-order i s f) (C .loopbacks p o (moment M C p o i s) f))
+      (λ s. ⊎-elim (from-held i s) (from-order i s f) (C .loopbacks p o (moment M p o i s) (rw (s .world) f)))
       (λ z. absurd (let x : Kind.Loopback ≡ Kind.Bad = sym (f .kind) ∙ idle-bad (stageAt r i) z in let y : _≡_ {A = ℕ} 0 1 = cc in omega arith))
       (split (origin r) (r .stages) i)
 
@@ -148,41 +142,50 @@ module _ (M : Members) (C : Cabinets M) (p : ℕ) (o : Sits M p) where
       rw (world-first r) (sym h)
   high-by (suc i) = rw (core-next r i) refl
 
-  makes-by : (i : ℕ) → Every (Writes (M .stakes) (signs M) (coreBy i)) (outsBy r i)
-  makes-by zero = good-start M C p o
-  makes-by (suc i) = good-at M C p o i .outs
+  round-by : (i : ℕ) → coreBy i .round .0 ≡ roundOf (before r (suc i))
+  round-by zero =
+      let h : roundOf (origin r) ≡ 1 = ap (λ (x : Result). roundOf (x .world)) (course-starts r .is) in
+      rw (world-first r) (sym h)
+  round-by (suc i) = rw (core-next r i) refl
 
-  true-by : (i : ℕ) → (isGenesis (coreBy i .«high_qc» .hash) (coreBy i .«high_qc» .round .0) ≡ false → Backs (M .stakes) (signs M) (coreBy i .«high_qc» .hash) (coreBy i .«high_qc» .round .0))
-  true-by zero = high-backs (M .stakes) (signs M) (kept-new (M .stakes) (signs M))
-  true-by (suc i) = high-backs (M .stakes) (signs M) (good-at M C p o i .state)
+  good : (i : ℕ) → Good (M .stakes) (voting M) (stepIn (resultAt r i))
+  good i = good-at M p o (voting M) (sure-at M p o C) (mine-at M p o) i
 
-  -- the certificates of a block made from a record a, where the high QC is c's
+  makes-by : (i : ℕ) → Every (Writes (M .stakes) (voting M) (coreBy i)) (outsBy r i)
+  makes-by zero = good-start M p o (voting M)
+  makes-by (suc i) = good i .outs
+
+  high-true : (i : ℕ) → let q = coreBy i .«high_qc» in isGenesis (q .hash) (q .round .0) ≡ false → Backs (M .stakes) (voting M) (q .hash) (q .round .0)
+  high-true zero = high-backs (M .stakes) (voting M) (kept-new (M .stakes) (voting M))
+  high-true (suc i) = high-backs (M .stakes) (voting M) (good i .state)
+
+  -- a block made from a record, where c is the part by value that the event of the record left
   record Sourced (c : Core) (b : Content) : Type 0 where
     hash : b .qcHash ≡ c .«high_qc» .hash
     round : b .qcRound ≡ c .«high_qc» .round .0
-    ending : TrueTc (partyOf M) (b .tc)
+    ending : (t h : ℕ) → b .tc ≡ ends t h → t < c .round .0
 
-  true-without : (b : Content) → b .tc ≡ without → TrueTc (partyOf M) (b .tc)
-  true-without b e = rw e tt
+  no-ending : {A : Type 0} (e : Ending) (t h : ℕ) → e ≡ without → e ≡ ends t h → A
+  no-ending e t h f g = absurd (let x : without ≡ ends t h = sym f ∙ g in let z : _≡_ {A = ℕ} 0 1 = cc in omega arith)
 
-  true-ends : (b : Content) (t h : ℕ) → b .tc ≡ ends t h → Ended (partyOf M) t h → TrueTc (partyOf M) (b .tc)
-  true-ends b t h e k = rw e k
+  one-ending : (e : Ending) (t h u k : ℕ) → e ≡ ends t h → e ≡ ends u k → u ≡ t
+  one-ending e t h u k f g = let x : ends t h ≡ ends u k = sym f ∙ g in cc
 
-  sourced : (c : Core) (a : Rec) (b : Content) → MadeFrom a b → Makes (M .stakes) (signs M) c a → Sourced c b
+  sourced : (c : Core) (a : Rec) (b : Content) → MadeFrom a b → Makes (M .stakes) (voting M) c a → Sourced c b
   sourced c (vote to hash round) b f k = absurd f
   sourced c (timeout round high) b f k = absurd f
   sourced c (tc round names highs) b f k = absurd f
   sourced c (make round high) b f k =
       record {
-        hash = f .qc-hash ∙ ap (λ (q : QC). q .hash) k;
-        round = f .qc-round ∙ ap (λ (q : QC). q .round .0) k;
-        ending = true-without b (f .tc);
+        hash = f .0 .qc-hash ∙ ap (λ (q : QC). q .hash) k;
+        round = f .0 .qc-round ∙ ap (λ (q : QC). q .round .0) k;
+        ending = λ t h e. no-ending (b .tc) t h (f .1) e;
       }
   sourced c (makeWith round high of names highs) b f k =
       record {
-        hash = f .qc-hash ∙ ap (λ (q : QC). q .hash) (k .0);
-        round = f .qc-round ∙ ap (λ (q : QC). q .round .0) (k .0);
-        ending = true-ends b of (highestOf names highs) (f .tc) (ended M of (highestOf names highs) (signers names) highs (k .1) (highest-most names highs));
+        hash = f .0 .qc-hash ∙ ap (λ (q : QC). q .hash) (k .0);
+        round = f .0 .qc-round ∙ ap (λ (q : QC). q .round .0) (k .0);
+        ending = λ t h e. omega (arith, one-ending (b .tc) of (f .1 .0) t h (f .1 .1) e, k .2);
       }
   sourced c (commit digest round) b f k = absurd f
   sourced c (sync parent block author) b f k = absurd f
@@ -192,10 +195,10 @@ module _ (M : Members) (C : Cabinets M) (p : ℕ) (o : Sits M p) where
   sourced c (answer n) b f k = absurd f
 
   sourced-by : (i : ℕ) (b : Content) → Made r i b → Sourced (coreBy i) b
-  sourced-by i b g = sourced (coreBy i) (g .0) b (g .2) (every-written (Writes (M .stakes) (signs M) (coreBy i)) (makes-by i) (g .1) .makes)
+  sourced-by i b g = sourced (coreBy i) (g .0) b (g .2) (every-written (Writes (M .stakes) (voting M) (coreBy i)) (makes-by i) (g .1) .makes)
 
-  made-qc : (c : Core) (b : Content) → Sourced c b → (isGenesis (c .«high_qc» .hash) (c .«high_qc» .round .0) ≡ false → Backs (M .stakes) (signs M) (c .«high_qc» .hash) (c .«high_qc» .round .0)) → TrueQc (partyOf M) (b .qcHash) (b .qcRound)
-  made-qc c b s h = rw (s .hash, s .round) (λ g. certified M (c .«high_qc» .hash) (c .«high_qc» .round .0) (h g))
+  made-qc : (i : ℕ) (b : Content) → Sourced (coreBy i) b → TrueQc (partyOf M) (b .qcHash) (b .qcRound)
+  made-qc i b s = rw (s .hash, s .round) (λ g. certified M (coreBy i .«high_qc» .hash) (coreBy i .«high_qc» .round .0) (high-true i g))
 
   proposed-qc : (i : ℕ) → Passed (worldAt r i) (eventAt r i) → TrueQc (partyOf M) (blockIn r i .«qc_hash») (blockIn r i .«qc_round» .0)
   proposed-qc i k g =
@@ -204,13 +207,21 @@ module _ (M : Members) (C : Cabinets M) (p : ℕ) (o : Sits M p) where
       let part = qcPart bytes blockQC in
       let h : hashAt part 0 ≡ b .«qc_hash» = qc-part-hash bytes blockQC ∙ sym (block-qc-hash bytes) in
       let n : numAt 8 part 32 ≡ b .«qc_round» .0 = qc-part-round bytes blockQC ∙ sym (block-qc-round bytes) in
-      let a = rw (committee-at M C p o i) at (passed-qc (worldAt r i) (eventAt r i) (total r) (started-at r i) k) in
-      let x : Backs (M .stakes) (signs M) (hashAt part 0) (numAt 8 part 32) =
-      embedded-backs (M .stakes) (signs M) part (a .0) (sure-at M C p o i .block-qc (k .kind)) (a .1) (rw (h, n) g) in
+      let a = rw (committee-at M p o i) at (passed-qc (worldAt r i) (eventAt r i) (total r) (started-at r i) k) in
+      let x : Backs (M .stakes) (voting M) (hashAt part 0) (numAt 8 part 32) =
+      embedded-backs (M .stakes) (voting M) part (a .0) (sure-at M p o C i .block-qc (k .kind)) (a .1) (rw (h, n) g) in
       certified M (b .«qc_hash») (b .«qc_round» .0) (rw (h, n) at x)
 
-  proposed-tc : (i : ℕ) → Passed (worldAt r i) (eventAt r i) → TrueTc (partyOf M) (endingOf (blockIn r i))
-  proposed-tc i k = cases (eqb (blockIn r i .tc) 0) refl
+  -- the result of its TC is true
+  sure-tc : (i : ℕ) → Passed (worldAt r i) (eventAt r i) → (blockIn r i .tc ≡ 0 → ⊥) → SureTC (signing M) (tcPart (eventAt r i .bytes) (blockIn r i .tc))
+  sure-tc i k ne v q n =
+      ⊎-elim
+      (λ (s : Split (origin r) (r .stages) i). λ l. C .results p o .block-tc (moment M p o i s) (k .kind) ne v q l n)
+      (λ z. absurd (let x : Kind.Propose ≡ Kind.Bad = sym (k .kind) ∙ idle-bad (stageAt r i) z in let y : _≡_ {A = ℕ} 0 1 = cc in omega arith))
+      (split (origin r) (r .stages) i)
+
+  tc-true : (i : ℕ) → Passed (worldAt r i) (eventAt r i) → TrueTc (partyOf M) (endingOf (blockIn r i))
+  tc-true i k = cases (eqb (blockIn r i .tc) 0) refl
     where
       some : (blockIn r i .tc ≡ 0 → ⊥) → Ended (partyOf M) (blockIn r i .«tc_round» .0) (blockIn r i .«tc_high» .0)
       some ne =
@@ -219,9 +230,8 @@ module _ (M : Members) (C : Cabinets M) (p : ℕ) (o : Sits M p) where
           let part = tcPart bytes (b .tc) in
           let n : numAt 8 part 0 ≡ b .«tc_round» .0 = tc-part-round bytes (b .tc) ∙ sym (block-tc-round bytes ne) in
           let most : b .«tc_high» .0 ≡ largestHigh part = block-tc-high bytes ne in
-          let a = rw (committee-at M C p o i) at (passed-tc (worldAt r i) (eventAt r i) (total r) (started-at r i) k ne) in
-          let x : Closes (M .stakes) (signs M) (numAt 8 part 0) (a .0) (highsOf part) =
-          tc-closes (M .stakes) (signs M) part (a .0) (sure-at M C p o i .block-tc (k .kind) ne) (a .1) in
+          let a = rw (committee-at M p o i) at (passed-tc (worldAt r i) (eventAt r i) (total r) (started-at r i) k ne) in
+          let x : Closes (M .stakes) (signing M) (numAt 8 part 0) (a .0) (highsOf part) = tc-closes (M .stakes) (signing M) part (a .0) (sure-tc i k ne) (a .1) in
           ended M (b .«tc_round» .0) (b .«tc_high» .0) (a .0) (highsOf part) (rw n at x) (λ j c. omega (arith, highs-le part j, most))
 
       cases : (u : Bool) → eqb (blockIn r i .tc) 0 ≡ u → TrueTc (partyOf M) (cond u without (ends (blockIn r i .«tc_round» .0) (blockIn r i .«tc_high» .0)))
@@ -238,18 +248,23 @@ module _ (M : Members) (C : Cabinets M) (p : ℕ) (o : Sits M p) where
   offered-qc : (i : ℕ) (c : Content) → Offered (traceOf r) i c → TrueQc (partyOf M) (c .qcHash) (c .qcRound)
   offered-qc zero c (inl g) = absurd g
   offered-qc (suc i) c (inl g) = rw (← g .1) (proposed-qc i (g .0))
-  offered-qc i c (inr g) = made-qc (coreBy i) c (sourced-by i c g) (true-by i)
+  offered-qc i c (inr g) = made-qc i c (sourced-by i c g)
 
-  offered-tc : (i : ℕ) (c : Content) → Offered (traceOf r) i c → TrueTc (partyOf M) (c .tc)
-  offered-tc zero c (inl g) = absurd g
-  offered-tc (suc i) c (inl g) = rw (← g .1) (proposed-tc i (g .0))
-  offered-tc i c (inr g) = sourced-by i c g .ending
+  proposed-tc : (i : ℕ) (c : Content) → Proposed r i c → TrueTc (partyOf M) (c .tc)
+  proposed-tc zero c g = absurd g
+  proposed-tc (suc i) c g = rw (← g .1) (tc-true i (g .0))
+
+  made-high : (i : ℕ) (c : Content) → Made r i c → highOf (before r (suc i)) ≤ c .qcRound
+  made-high i c g = omega (arith, sourced-by i c g .round, high-by i)
+
+  made-round : (i : ℕ) (c : Content) → Made r i c → (t h : ℕ) → c .tc ≡ ends t h → t < roundOf (before r (suc i))
+  made-round i c g t h e = omega (arith, sourced-by i c g .ending t h e, round-by i)
 
   -- ---- votes
 
-  voting : (i : ℕ) (d : Hash) (n : ℕ) → Casts r i d n → Voting (traceOf r) (lifeOf r) i d n
-  voting zero d n c = absurd c
-  voting (suc i) d n c = cases (brings (worldAt r i) (eventAt r i) (total r) (started-at r i))
+  votes : (i : ℕ) (d : Hash) (n : ℕ) → Casts r i d n → Voting (traceOf r) (lifeOf r) i d n
+  votes zero d n c = absurd c
+  votes (suc i) d n c = cases (brings (worldAt r i) (eventAt r i) (total r) (started-at r i))
     where
       by : Passed (worldAt r i) (eventAt r i) ⊎ Loops r i → Voting (traceOf r) (lifeOf r) (suc i) d n
       by g =
@@ -363,12 +378,16 @@ module _ (M : Members) (C : Cabinets M) (p : ℕ) (o : Sits M p) where
   keeps =
       record {
         careful = careful r;
+        round-rises = round-rises r;
+        vote-in-round = vote-in-round r;
         high-rises = high-rises r;
         timeout-high = timeout-high r;
-        voting = voting;
+        voting = votes;
         offered-high = offered-high;
         offered-qc = offered-qc;
-        offered-tc = offered-tc;
+        proposed-tc = proposed-tc;
+        made-high = made-high;
+        made-round = made-round;
         start = ap (λ (x : Result). committedOf (x .world)) (course-starts r .is);
         commit = commits;
         stored = stored;

@@ -2,19 +2,15 @@
 --     Ending              a block's TC, if it has one: its round and its largest high round
 --     Content             digest, round, QC and TC of a block
 --     endingOf, contentOf b     the TC and the content of a block that an event carries
---     highestOf names highs     the largest high round of those named
 --     MadeFrom a c        the content c is that of a block made from the record a, a MAKE (Builds)
 use Prim.Native.Nat.{ℕ}
 use mathlib.Core.Bool.{cond}
-use mathlib.Core.List.{List, map}
 use mathlib.Core.Path.{_≡_}
 use lib.Dec.{eqb}
-use lib.ListN.{getD}
 use Rattle.certificates.specs.declared.numbers.Hash.{Hash}
 use Rattle.certificates.specs.declared.messages.QC.{QC}
 use Rattle.trace.specs.declared.events.Block.{Block}
-use Rattle.trace.specs.Layout.{largest}
-use Rattle.outputs.specs.Records.{Rec, vote, timeout, tc, make, makeWith, commit, sync, cleanProposer, cleanMempool, timerReset, answer, placesOf}
+use Rattle.outputs.specs.Records.{Rec, vote, timeout, tc, make, makeWith, commit, sync, cleanProposer, cleanMempool, timerReset, answer}
 
 pub data Ending : Type 0 where
   without : Ending
@@ -40,21 +36,17 @@ contentOf b =
       tc = endingOf b;
     }
 
-unfoldable pub highestOf : ℕ → List ℕ → ℕ
-highestOf names highs = largest (map (λ (p : ℕ). getD highs p 0) (placesOf names))
-
-pub record Builds (c : Content) (high : QC) (ending : Ending) : Type 0 where
+pub record Builds (c : Content) (high : QC) : Type 0 where
   pub qc-hash : c .qcHash ≡ high .hash
   pub qc-round : c .qcRound ≡ high .round .0
-  pub tc : c .tc ≡ ending
 
--- the QC is the record's, and so is the TC, if it has one. Nothing is asked of the round.
+-- The QC is the record's. So is the TC, as far as its round goes; without one there is none. Nothing is asked of the block's round, nor of who signed the TC.
 abbrev pub MadeFrom : Rec → Content → Type 0
 MadeFrom (vote to hash round) c = ⊥
 MadeFrom (timeout round high) c = ⊥
 MadeFrom (tc round names highs) c = ⊥
-MadeFrom (make round high) c = Builds c high without
-MadeFrom (makeWith round high of names highs) c = Builds c high (ends of (highestOf names highs))
+MadeFrom (make round high) c = Builds c high × (c .tc ≡ without)
+MadeFrom (makeWith round high of names highs) c = Builds c high × ((most : ℕ) × (c .tc ≡ ends of most))
 MadeFrom (commit digest round) c = ⊥
 MadeFrom (sync parent block author) c = ⊥
 MadeFrom (cleanProposer b0 b1 block) c = ⊥

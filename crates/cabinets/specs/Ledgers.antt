@@ -19,8 +19,8 @@ use Rattle.certificates.specs.Num.{numAt}
 use Rattle.certificates.specs.Signers.{member}
 use Rattle.certificates.specs.Messages.{qcForm, tcForm, verdictIn, placesIn, isGenesis, equalsGenesis}
 use Rattle.trace.specs.declared.events.Kind.{Kind}
-use Rattle.trace.specs.Fields.{voteOf, timeoutOf}
-use Rattle.trace.specs.Layout.{blockQC, timeoutQC, tcBody, qcPart, tcPart, highsOf}
+use Rattle.trace.specs.Fields.{voteOf}
+use Rattle.trace.specs.Layout.{blockQC, timeoutQC, qcPart, tcPart, highsOf}
 use Rattle.outputs.specs.Records.{Rec}
 use Rattle.runs.specs.Runs.{Written, deliveredIn}
 use Rattle.runs.specs.Courses.{Course, outputs, Moment, upTo, eventAt, foundAt, bytesAt, kindAt, blockAt}
@@ -41,14 +41,12 @@ module _ (M : Members) where
       verdictIn tcForm part ≡ 1 → (p : ℕ) → Sits M p → member p (placesIn tcForm part) ≡ true
       → Expired M p (numAt 8 part 0) (getD (highsOf part) p 0)
 
-  -- every result that a check of the course c looks at: a vote's and a timeout's own, and those of certificates. LOOPBACK's are not looked at.
+  -- The results that come with the events of the course c: a vote's own, those of QCs, and those of TCs in a PROPOSE. A timeout's own result and that of a TC event need
+  -- not be true: they bring a unit no further than to a MAKE, and a block that is made from it goes to the others as a PROPOSE. LOOPBACK's are not looked at.
   pub record Truthful (c : Course) : Type 0 where
     pub vote : (m : Moment c) → kindAt m ≡ Kind.Vote → let v = voteOf (bytesAt m) in
         v .verdict ≡ 1 → Sits M (v .author .0) → Signed M (v .author .0) (v .hash) (v .round .0)
-    pub timeout : (m : Moment c) → kindAt m ≡ Kind.Timeout → let t = timeoutOf (bytesAt m) in
-        t .verdict ≡ 1 → Sits M (t .author .0) → Expired M (t .author .0) (t .round .0) (t .«qc_round» .0)
     pub timeout-qc : (m : Moment c) → kindAt m ≡ Kind.Timeout → TrueQC (qcPart (bytesAt m) timeoutQC)
-    pub tc : (m : Moment c) → kindAt m ≡ Kind.Tc → TrueTC (tcPart (bytesAt m) tcBody)
     pub block-qc : (m : Moment c) → kindAt m ≡ Kind.Propose → TrueQC (qcPart (bytesAt m) blockQC)
     pub block-tc : (m : Moment c) → kindAt m ≡ Kind.Propose → (blockAt m .tc ≡ 0 → ⊥) → TrueTC (tcPart (bytesAt m) (blockAt m .tc))
 

@@ -4,6 +4,7 @@
 --     roundOf, below          the round of what a block stands on
 --     Backed d                the block has a certificate
 --     Sound d                 what is so of a block that a member who obeys votes for
+--     Rule l d                the voting rule, for a block that a member votes for
 --     Prudent l               the rules of voting
 --     Head, Walk, Commit, Nothing, Delivers    the rules of delivery
 --     Rules                   all of them, of all members that obey
@@ -48,12 +49,21 @@ module _ (P : Party) (B : Blocks) where
   pub record Sound (d : Hash) : Type 0 where
     pub lower : below d < B .round d
     pub backed : (e : Hash) → B .parent d ≡ child-of e → Backed e
-    pub rule : (suc (below d) ≡ B .round d) ⊎ ((t : ℕ) × (suc t ≡ B .round d) × Ended P t (below d))
+
+  -- The voting rule, for a block that a member votes for: its QC is of the round before; or the round before is ended, with high rounds not above its QC's; or the member
+  -- made it by itself, on its high QC, once it had passed the round before.
+  pub data Rule (l : Life) (d : Hash) : Type 0 where
+    follows : suc (below d) ≡ B .round d → Rule l d
+    resumes : (t : ℕ) → suc t ≡ B .round d → Ended P t (below d) → Rule l d
+    own : (j : ℕ) → B .round d ≤ l .round (suc j) → l .high (suc j) ≤ below d → Rule l d
 
   pub record Prudent (r : Life) : Type 0 where
+    pub round-rises : (i : ℕ) → r .round i ≤ r .round (suc i)
+    pub vote-in-round : (i : ℕ) (d : Hash) (n : ℕ) → r .casts i d n → r .round i ≤ n
     pub high-rises : (i : ℕ) → r .high i ≤ r .high (suc i)
     pub vote-high : (i : ℕ) (d : Hash) (n : ℕ) → r .casts i d n → below d ≤ r .high (suc i)
     pub vote-sound : (i : ℕ) (d : Hash) (n : ℕ) → r .casts i d n → Sound d
+    pub vote-rule : (i : ℕ) (d : Hash) (n : ℕ) → r .casts i d n → Rule r d
     pub timeout-high : (i t h : ℕ) → r .expires i t h → r .high i ≤ h
 
   -- ---- the rules of delivery

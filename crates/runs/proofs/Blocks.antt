@@ -202,7 +202,7 @@ pub record Treats (total : ℕ) (b : Block) (q : ℕ) (t t′ : List Slot) (s : 
   pub within : votedIn (s .core) ≤ roundIn (s .core) → votedIn (a .state .core) ≤ roundIn (a .state .core)
 
 -- records that sign nothing, in front
-module _ {b : Block} {q : ℕ} {c : Core} (a x : Step) (e : signedIn (a .outs) ≡ []) (v : votedIn (a .state .core) ≡ votedIn c) (h : highIn c ≤ highIn (a .state .core))
+module _ {b : Block} {q : ℕ} {c : Core} (a x : Step) (e : signedIn (a .outs) ≡ []) (v : votedIn (a .state .core) ≡ votedIn c) (h : highIn c ≤ highIn (a .state .core)) (n : roundIn c ≤ roundIn (a .state .core))
     (l : highIn c < roundIn c → highIn (a .state .core) < roundIn (a .state .core)) where
   casts-after : Casts b q (a .state .core) x → Casts b q c (record { state = x .state; outs = a .outs ++ x .outs })
   casts-after (skips f w) = skips (only-append isSigned (a .outs) (x .outs) ∙ rw (e, f)) (w ∙ v)
@@ -216,6 +216,7 @@ module _ {b : Block} {q : ℕ} {c : Core} (a x : Step) (e : signedIn (a .outs) �
         now = k .now;
         at = k .at;
         current = k .current;
+        passed = le-trans n (k .passed);
         before = le-trans h (k .before);
         after = k .after;
         below = λ u. k .below (l u);
@@ -239,7 +240,7 @@ module _ (total : ℕ) (b : Block) (q : ℕ) (t : List Slot) (s : State) (p : Se
   treats-votes x v =
       record {
         stays = stays-then (stays-core total s (withCommitted (s .core) (p .last)) refl refl) (v .stays);
-        casts = casts-after (settledStep s p) x (h .signs) refl (le-refl _) (λ k. k) (v .casts);
+        casts = casts-after (settledStep s p) x (h .signs) refl (le-refl _) (le-refl _) (λ k. k) (v .casts);
         delivers =
             record {
               blocks = h .blocks;
@@ -272,7 +273,7 @@ module _ (total : ℕ) (m : List ℕ) (own : ℕ) (low : quorumOf m ≤ suc tota
       let last : committedIn (a .state .core) ≡ committedIn (s .core) = ap (λ r. r .0) (k .committed) in
       record {
         stays = stays-then (stays-keeps k) (h .stays);
-        casts = casts-after a x (p .silent .signs) same (k .high) (p .below) (h .casts);
+        casts = casts-after a x (p .silent .signs) same (k .high) (k .round) (p .below) (h .casts);
         delivers =
             record {
               blocks = h .delivers .blocks;

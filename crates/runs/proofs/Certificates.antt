@@ -1,17 +1,17 @@
 -- Certificates that a quorum of members backs pass the check, laid out as bytes with the result yes. Assumes nothing.
 --     places-bits, places-distinct      the places of a word: who is in, and that none is named twice
---     word-bits, largest-places         who is in a word, by its places; the largest of some numbers over them
+--     word-bits                         who is in a word, by its places
 --     qc-places, tc-places              a certificate's list, read back from its bytes
 --     quorate-qc, quorate-tc            a quorum of members with stake is accepted
 --     genesis-good, quorate-good        .. inside a block or a timeout; and so is genesis
 use Prim.Native.Nat.{ℕ, zero, suc, _+_, _-_, _*_, _/_, _%_, _^_, _≤_, _<_}
-use mathlib.Core.Bool.{Bool, true, false, cond, _||_}
+use mathlib.Core.Bool.{Bool, true, false, cond}
 use mathlib.Core.List.{List, [], _∷_, _++_, map, append-assoc}
 use mathlib.Core.Logic.{_≢_, _⊎_, inl, inr, ⊎-elim}
 use mathlib.Core.Path.{_≡_, refl, sym, ap, _∙_}
 use native.Mathlib.Nat.{zero-add, pow-suc}
 use native.Mathlib.Omega.{arith}
-use borrow.Author.Tests.{eqb-true, eq-eqb, ne-eqb, ltb-true, ltb-false}
+use borrow.Author.Tests.{eq-eqb, ne-eqb, ltb-true, ltb-false}
 use lib.Bits.{or-lt}
 use lib.Count.{ones}
 use lib.Dec.{eqb, ltb, lit<}
@@ -29,8 +29,6 @@ use Rattle.certificates.proofs.Places.{member-take}
 use Rattle.certificates.proofs.Accepted.{Distinct, named-accepted, qc-part, tc-part, embedded-part, certified, walked-distinct}
 use Rattle.certificates.proofs.Sets.{in-low}
 use Rattle.certificates.proofs.Theorems.{genesis-accepted}
-use Rattle.trace.specs.Layout.{largest}
-use Rattle.trace.proofs.Bounds.{largest-cons}
 use Rattle.outputs.specs.Fields.{number, hash, digits, hashBytes, bytesOf}
 use Rattle.outputs.specs.Records.{placesFrom, placesOf, entries}
 use Rattle.outputs.proofs.Writes.{length-digits}
@@ -122,23 +120,6 @@ word-bits s q = cases (ltb q membersMax) refl
     cases : (b : Bool) → ltb q membersMax ≡ b → cond b (bitOf (s .0) q) 0 ≡ cond (member q (placesFrom membersMax 0 (s .0))) 1 0
     cases true e = rw zero-add at (places-bits membersMax 0 (s .0) q (ltb-true q membersMax e))
     cases false e = rw (places-under membersMax 0 (s .0) q (omega (arith, ltb-false q membersMax e)))
-
--- what is asked of the largest number over the places of a word: it is not below that of any of them
-largest-in : (f : ℕ → ℕ) (p : ℕ) (ps : List ℕ) → member p ps ≡ true → f p ≤ largest (map f ps)
-unfolding member
-largest-in f p [] e = absurd (let z : _≡_ {A = ℕ} 0 1 = cc in omega arith)
-largest-in f p (q ∷ ps) e = cases (eqb p q) refl e (λ k. largest-in f p ps k)
-  where
-    cases : (b : Bool) → eqb p q ≡ b → (b || member p ps) ≡ true → (member p ps ≡ true → f p ≤ largest (map f ps)) → f p ≤ largest (f q ∷ map f ps)
-    cases true g h k = rw (largest-cons (f q) (map f ps), eqb-true p q g) (omega arith)
-    cases false g h k = rw (largest-cons (f q) (map f ps)) (omega (arith, k h))
-
-set-in : (b : Bool) → _≡_ {A = ℕ} (cond b 1 0) 1 → b ≡ true
-set-in true h = refl
-set-in false h = absurd (omega arith)
-
-pub largest-places : (f : ℕ → ℕ) (s : Signers) (p : ℕ) → isIn (words s) p ≡ 1 → f p ≤ largest (map f (placesOf (s .0)))
-largest-places f s p b = largest-in f p (placesOf (s .0)) (set-in (member p (placesOf (s .0))) (sym (word-bits s p) ∙ b))
 
 set-one : (b : Bool) → b ≡ true → _≡_ {A = ℕ} (cond b 1 0) 1
 set-one b e = rw e

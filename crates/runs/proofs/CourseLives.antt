@@ -3,7 +3,7 @@
 --     started-at, seat-at, ordered-at, closed-at     what holds of that world
 --     lifeOf r                            the course as a life
 --     careful                             the rules of voting, as far as rounds go
---     high-rises, timeout-high            and of the high QC
+--     round-rises, vote-in-round, high-rises, timeout-high      and of the round and the high QC
 --     written-at                          what the course writes after START an event of it writes
 use Prim.Native.Nat.{ℕ, zero, suc, _+_, _≤_, _<_}
 use mathlib.Core.Bool.{true}
@@ -116,6 +116,7 @@ module _ (r : Course) where
   abbrev pub lifeOf : Life
   lifeOf =
       record {
+        round = λ i. roundOf (before i);
         voted = λ i. votedOf (before i);
         high = λ i. highOf (before i);
         committed = λ i. committedOf (before i);
@@ -129,6 +130,10 @@ module _ (r : Course) where
   voted-rises zero = rw world-first (le-refl _)
   voted-rises (suc i) = rw (core-next i) (laws.voted-rises (worldAt i) (eventAt i) (total) (started-at i))
 
+  pub round-rises : (i : ℕ) → roundOf (before i) ≤ roundOf (before (suc i))
+  round-rises zero = rw world-first (le-refl _)
+  round-rises (suc i) = rw (core-next i) (laws.round-rises (worldAt i) (eventAt i) total (started-at i))
+
   pub high-rises : (i : ℕ) → highOf (before i) ≤ highOf (before (suc i))
   high-rises zero = rw world-first (le-refl _)
   high-rises (suc i) = rw (core-next i) (laws.high-rises (worldAt i) (eventAt i) (total) (started-at i))
@@ -136,6 +141,11 @@ module _ (r : Course) where
   vote-new : (i : ℕ) (d : Hash) (n : ℕ) → Casts i d n → votedOf (before i) < n
   vote-new zero d n c = absurd c
   vote-new (suc i) d n c = laws.vote-new (worldAt i) (eventAt i) (total) (started-at i) (c .1)
+
+  -- a vote is for a round that is not passed
+  pub vote-in-round : (i : ℕ) (d : Hash) (n : ℕ) → Casts i d n → roundOf (before i) ≤ n
+  vote-in-round zero d n c = absurd c
+  vote-in-round (suc i) d n c = laws.vote-in-round (worldAt i) (eventAt i) total (started-at i) (c .1)
 
   vote-kept : (i : ℕ) (d : Hash) (n : ℕ) → Casts i d n → n ≤ votedOf (before (suc i))
   vote-kept zero d n c = absurd c

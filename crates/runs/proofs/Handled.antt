@@ -61,6 +61,7 @@ use Rattle.runs.specs.Runs.{Written}
 use Rattle.runs.proofs.Lists.{written-behind}
 use Rattle.runs.proofs.Tallied.{Quorate}
 use Rattle.runs.proofs.Certificates.{signers-word}
+use Rattle.runs.proofs.Plain.{advanced-above}
 use Rattle.runs.proofs.Kept.{Signatures, Every, none, more, every-append, Backs, Closes, Backed, backed, backed-good, backed-backs, Kept, Writes, Good, Begins, MayTake, good-quiet, begins-good, good-then, begins-quiet, begins-then, kept-core, begins-advanced, begins-taken, writes-make-with, good-vote, good-timeout}
 
 -- ---- results
@@ -223,7 +224,7 @@ module _ (m : List ℕ) (g : Signatures) where
           let same : signersOf c ≡ a .0 = ap signersOf (a .1) in
           rw same
           (good-then m g (λ (u : State). record { state = u; outs = makeWithOf m own (u .core) round (a .0 .0) (highsOf part) }) (begins-advanced m g k round)
-          (λ n. record { state = n; outs = writes-make-with m g own n round (a .0) (highsOf part) x })))
+          (λ n. record { state = n; outs = writes-make-with m g own n round (a .0) (highsOf part) x (advanced-above s round) })))
 
       -- ---- TICK: the own timeout is signed because it was written
 

@@ -6,7 +6,7 @@
 --     Closes m g t names highs      the names are such a quorum, each of which signed a timeout of the round t with its high round
 --     Backed m g q             the QC q is genesis, or its signers back it
 --     Kept m g s               what holds of a state
---     Makes m g c a            the QC of a MAKE is the high QC of c, and its TC closes its round
+--     Makes m g c a            a TC closes its round; the QC of a MAKE is the high QC of c, and its TC is of a round that c has passed
 --     Writes m g c a           what holds of a record a of a step that leaves c: that, and its certificates pass the check
 --     Good m g a               a step that leaves such a state, and writes such records
 --     Begins m g a             such a step without a MAKE, so that any other may follow it
@@ -144,9 +144,9 @@ module _ (m : List ℕ) (g : Signatures) where
   abbrev pub Makes : Core → Rec → Type 0
   Makes c (vote to hash round) = Unit {0}
   Makes c (timeout round high) = Unit {0}
-  Makes c (tc round names highs) = Unit {0}
+  Makes c (tc round names highs) = Closes round (signers names) highs
   Makes c (make round high) = high ≡ c .«high_qc»
-  Makes c (makeWith round high of names highs) = (high ≡ c .«high_qc») × Closes of (signers names) highs
+  Makes c (makeWith round high of names highs) = (high ≡ c .«high_qc») × Closes of (signers names) highs × (of < c .round .0)
   Makes c (commit digest round) = Unit {0}
   Makes c (sync parent block author) = Unit {0}
   Makes c (cleanProposer b0 b1 block) = Unit {0}
@@ -261,15 +261,15 @@ module _ (m : List ℕ) (g : Signatures) where
       cases true = more (record { sends = backed-good (s .core .«high_qc») (k .high); makes = refl }) none
       cases false = none
 
-  pub writes-make-with : (own : ℕ) {s : State} → Kept s → (of : ℕ) (names : Signers) (highs : List ℕ) → Closes of names highs
+  pub writes-make-with : (own : ℕ) {s : State} → Kept s → (of : ℕ) (names : Signers) (highs : List ℕ) → Closes of names highs → of < s .core .round .0
       → Every (Writes (s .core)) (makeWithOf m own (s .core) of (names .0) highs)
   unfolding makeWithOf
-  writes-make-with own {s} k of names highs c = cases (leads m own (s .core))
+  writes-make-with own {s} k of names highs c l = cases (leads m own (s .core))
     where
       cases : (b : Bool) → Every (Writes (s .core)) (cond b (makeWith (s .core .round .0) (s .core .«high_qc») of (names .0) highs ∷ []) [])
       cases true =
           more {a = makeWith (s .core .round .0) (s .core .«high_qc») of (names .0) highs}
-          (record { sends = (backed-good (s .core .«high_qc») (k .high), quorate-tc m of names highs (c .quorum)); makes = (refl, c) }) none
+          (record { sends = (backed-good (s .core .«high_qc») (k .high), quorate-tc m of names highs (c .quorum)); makes = (refl, c, l) }) none
       cases false = none
 
   -- what START writes
@@ -282,16 +282,17 @@ module _ (m : List ℕ) (g : Signatures) where
       rw (certified-is m own s q)
       (good-then (λ (u : State). record { state = u; outs = makeOf m own (u .core) }) (begins-taken k q t) (λ n. record { state = n; outs = writes-make own n }))
 
-  writes-tc : (own : ℕ) {s : State} → Kept s → (round : ℕ) (names : Signers) (highs : List ℕ) → Closes round names highs
+  writes-tc : (own : ℕ) {s : State} → Kept s → (round : ℕ) (names : Signers) (highs : List ℕ) → Closes round names highs → round < s .core .round .0
       → Every (Writes (s .core)) (tcOuts m own (s .core) round (names .0) highs)
   unfolding tcOuts
-  writes-tc own k round names highs c = more (record { sends = quorate-tc m round names highs (c .quorum); makes = tt }) (writes-make-with own k round names highs c)
+  writes-tc own k round names highs c l =
+      more {a = tc round (names .0) highs} (record { sends = quorate-tc m round names highs (c .quorum); makes = c }) (writes-make-with own k round names highs c l)
 
   good-timed-out : (own : ℕ) {s : State} → Kept s → (round : ℕ) (names : Signers) (highs : List ℕ) → Closes round names highs → Good (timedOut m own s round (names .0) highs)
   good-timed-out own {s} k round names highs c =
       rw (timed-out-is m own s round (names .0) highs)
       (good-then (λ (u : State). record { state = u; outs = tcOuts m own (u .core) round (names .0) highs }) (begins-advanced k round)
-      (λ n. record { state = n; outs = writes-tc own n round names highs c }))
+      (λ n. record { state = n; outs = writes-tc own n round names highs c (advanced-above s round) }))
 
   -- ---- tallies
 

@@ -59,6 +59,7 @@ pub record Ballot (b : Block) (q : ℕ) (c : Core) (a : Step) : Type 0 where
   pub now : votedIn (a .state .core) ≡ b .round .0
   pub at : Core
   pub current : roundIn at ≡ b .round .0
+  pub passed : roundIn c ≤ roundIn at
   pub before : highIn c ≤ highIn at
   pub after : highIn at ≤ highIn (a .state .core)
   pub below : highIn c < roundIn c → highIn at < roundIn at

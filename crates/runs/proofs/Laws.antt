@@ -9,7 +9,7 @@
 --     vote-new, vote-last                  a VOTE is above last voted, and is the new last voted
 --     timeout-kept, timeout-high           a TIMEOUT is not above the new last voted; it names the round and the high QC that the event found
 --     vote-block, vote-rule                a VOTE names the event's block, which meets the voting rule
---     vote-current, propose-high           the high QC when a VOTE is cast
+--     vote-current, vote-in-round, propose-high      the high QC and the round when a VOTE is cast
 --     commit-new, commits-rise, commit-kept, commit-last, commit-none      the rounds of an event's COMMITs
 --     deliveries, deliveries-chain         the blocks of its COMMITs
 use Prim.Native.Nat.{ℕ, _+_, _≤_, _<_}
@@ -179,6 +179,10 @@ module _ (w : World) (e : Event) (t : Stake) (s : Started w t) where
     vote-current l =
         let k = cast .2 in
         (k .at .«high_qc» .round .0, k .before, omega (arith, k .below l, k .current, cast .1), k .after, k .took)
+
+    -- Its round is not below the round that the event found.
+    pub vote-in-round : roundOf w ≤ n
+    vote-in-round = omega (arith, cast .2 .passed, cast .2 .current, cast .1)
 
     -- H3: a VOTE that a PROPOSE brought leaves a high QC not below the block's QC.
     pub propose-high : formOf (e .bytes) ≡ Kind.Propose → blockOf (e .bytes) .«qc_round» .0 ≤ highOf (stepOn w e .world)

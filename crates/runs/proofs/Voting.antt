@@ -89,6 +89,7 @@ votes-for total b q s to x u e v k p =
             now = ap (λ r. r .0) (k .voted);
             at = s .core;
             current = sym e;
+            passed = le-refl _;
             before = le-refl _;
             after = k .high;
             below = λ h. h;

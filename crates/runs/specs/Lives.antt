@@ -16,8 +16,9 @@ use Rattle.certificates.specs.Config.{sum, quorumOf}
 use Rattle.certificates.specs.Signers.{isIn, stakeIn}
 use Rattle.outputs.specs.Records.{Rec}
 
--- last voted, high QC's and last committed round before moment i; what it signs; what it delivers, oldest first, as digests and as COMMITs
+-- round, last voted, high QC's and last committed round before moment i; what it signs; what it delivers, oldest first, as digests and as COMMITs
 pub record Life : Type 1 where
+  pub round : ℕ → ℕ
   pub voted : ℕ → ℕ
   pub high : ℕ → ℕ
   pub committed : ℕ → ℕ
