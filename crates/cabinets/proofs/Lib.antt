@@ -4,3 +4,8 @@ pub mod Events
 pub mod TrueCourses
 pub mod CourseKeeps
 pub mod Digests
+pub mod Absent
+pub mod Cuts
+pub mod Bytes
+pub mod Theorems
+pub mod HandedOut

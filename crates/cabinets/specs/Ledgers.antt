@@ -87,6 +87,8 @@ pub record Cabinets (M : Members) : Type 0 where
   -- "LOOPBACK carries only blocks that the same replica was told to make and made from that MAKE, or blocks that it already held waiting after a PROPOSE"
   pub loopbacks : (p : ℕ) → Sits M p → (m : Moment (M .course p)) → Looped (foundAt m) (eventAt m) → Held m ⊎ Ordered m
 
+-- ---- what is claimed
+
 -- "the two sequences of delivered blocks"
 abbrev pub delivered : Course → List Rec
 delivered c = deliveredIn (outputs c)

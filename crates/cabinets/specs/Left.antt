@@ -5,7 +5,8 @@
 --     Part xs ys          xs is ys with some left out
 --     lastCommit l ls     the round of the last COMMIT of the list ls, and l where there is none
 --     Tells k l           at each restart the last COMMIT that left is of the image's last committed round; l is that of the last that left before
-use Prim.Native.Nat.{ℕ}
+--     Within k l          at each restart it is not above it
+use Prim.Native.Nat.{ℕ, _≤_}
 use mathlib.Core.Bool.{true, false}
 use mathlib.Core.List.{List, [], _∷_, _++_}
 use mathlib.Core.Path.{_≡_}
@@ -46,3 +47,7 @@ lastCommit l (answer n ∷ rs) = lastCommit l rs
 unfoldable pub Tells : {w : World} {ss : List Stage} {ls : List Rec} → Leaves w ss ls → ℕ → Type 0
 Tells none l = Unit {0}
 Tells {w} (more s front lost e f k) l = (s .cut ≡ true → lastCommit l front ≡ committedOf (next w s)) × Tells k (lastCommit l front)
+
+unfoldable pub Within : {w : World} {ss : List Stage} {ls : List Rec} → Leaves w ss ls → ℕ → Type 0
+Within none l = Unit {0}
+Within {w} (more s front lost e f k) l = (s .cut ≡ true → lastCommit l front ≤ committedOf (next w s)) × Within k (lastCommit l front)

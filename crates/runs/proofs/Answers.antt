@@ -298,8 +298,9 @@ module _ (w : World) (e : Event) (t : Stake) (s : Started w t) (n : ℕ) (is : (
   treated u same a =
       let k = by-table (committee w) (w .seat .own .0) (w .table) b u n (λ v. stops n refl (votes-elsewhere n v)) a in
       let ne : n ≡ 0 → ⊥ = λ z. ⊎-elim (λ i. omega arith) (λ i. omega arith) is in
+      let nw : n ≡ waitParent → ⊥ = λ z. ⊎-elim (λ i. omega arith) (λ i. omega arith) is in
       let nf : n ≡ tableFull → ⊥ = λ z. ⊎-elim (λ i. omega arith) (λ i. omega arith) is in
-      rw (ap (λ (x : Round). x .0) same) at (settled-stopped (w .table) (workFor b (u .core .«last_committed_round») 0) n ne nf refl (k .0))
+      rw (ap (λ (x : Round). x .0) same) at (settled-stopped (w .table) (workFor b (u .core .«last_committed_round») 0) n ne nw nf refl (k .0))
 
   pub record StoppedIn : Type 0 where
     pub brought : Passed w e ⊎ Looped w e

@@ -359,11 +359,11 @@ module _ (t : List Slot) (last : ℕ) where
 
 -- "30 | b0 or a walked parent absent", "31 | walked parent's round not below its child's"
 pub data Stopped (t : List Slot) (b : Slot) (last n : ℕ) : Type 0 where
-  no-b0 : ancestorsOf t b .answer ≡ n → Stopped t b last n
+  no-b0 : n ≡ ancestorAbsent → ancestorsOf t b .answer ≡ ancestorAbsent → Stopped t b last n
   in-walk : ancestorsOf t b .answer ≡ 0 → ancestorsOf t b .b0 .round .0 + 1 ≡ ancestorsOf t b .b1 .round .0 → last < ancestorsOf t b .b0 .round .0
       → walkOf (stored t b) (ancestorsOf t b .b0) last ≡ refused n → Stopped t b last n
 
-module _ (t : List Slot) (w : Work) (n : ℕ) (ne : n ≡ 0 → ⊥) (nf : n ≡ tableFull → ⊥) where
+module _ (t : List Slot) (w : Work) (n : ℕ) (ne : n ≡ 0 → ⊥) (nw : n ≡ waitParent → ⊥) (nf : n ≡ tableFull → ⊥) where
   abbrev b : Slot
   b = w .block
 
@@ -381,15 +381,24 @@ module _ (t : List Slot) (w : Work) (n : ℕ) (ne : n ≡ 0 → ⊥) (nf : n ≡
   by-commit true false f g found e = absurd (ne (sym e))
   by-commit false y f g found e = absurd (ne (sym e))
 
+  by-ancestors : ancestorsOf t b .answer ≡ n → n ≡ ancestorAbsent
+  unfolding ancestorsOf
+  by-ancestors e = cases (parentOf t b .found) (parentOf t (parentOf t b .slot) .found) e
+    where
+      cases : (x y : Bool) → cond x (cond y 0 ancestorAbsent) waitParent ≡ n → n ≡ ancestorAbsent
+      cases true true e = absurd (ne (sym e))
+      cases true false e = sym e
+      cases false y e = absurd (nw (sym e))
+
   by-store : (x y : Bool) → eqb (ancestorsOf t b .answer) 0 ≡ x
       → cond x (cond y (linkedOf (stored t b) b (ancestorsOf t b .b0) (ancestorsOf t b .b1) last) (answered tableFull t last [])) (answered (ancestorsOf t b .answer) t last []) .answer ≡ n
       → Stopped t b last n
   unfolding linkedOf commitIf commitOf
   by-store true true f e = by-commit (isTwoChain (ancestorsOf t b .b0) (ancestorsOf t b .b1)) (ltb last (ancestorsOf t b .b0 .round .0)) refl refl (eqb-true _ 0 f) e
   by-store true false f e = absurd (nf (sym e))
-  by-store false y f e = no-b0 e
+  by-store false y f e = let a = by-ancestors e in no-b0 a (e ∙ a)
 
-  -- What a block met that is answered another number than 0 and 28.
+  -- What a block met that is answered another number than 0, 2 and 28.
   pub settled-stopped : w .does ≡ block → settledOf t w .answer ≡ n → Stopped t b last n
   unfolding processedBy
   settled-stopped d e = by-store (eqb (ancestorsOf t b .answer) 0) (ltb (placeOf t b) (length t)) refl (rw (settled-block t w d) at e)
