@@ -4,8 +4,8 @@
 --     part-..., put-...      a row that is lent as a part, and the table once it is back
 --     row-...                the numbers and the place of a row
 --     Mapped, map-...        a table of which i rows are replaced
---     withRow-...            a table with another row i
---     mapRows-...            a table with every row replaced
+--     with_row-...            a table with another row i
+--     map_rows-...            a table with every row replaced
 --     zeros-...              a table of zeros
 --     sets-whole, one_shl    a row that is written whole; a bit that is shifted to its place
 -- Assumes nothing.
@@ -24,7 +24,7 @@ use lib.ListN.{length, get_or, take, drop, length-append, length-take, length-dr
 use lib.Seq.{take-append-add, drop-append-add, get_or-take, get_or-drop, sets, sets-eq, take_at, drop_at, drop-drop, length-take-le}
 use Rattle.aggregator.specs.declared.tallies.Found.{Found}
 use Rattle.aggregator.specs.declared.tallies.Found.TheVariants.{At, Nothing}
-use Rattle.aggregator.specs.Rows.{zeros, row, with_row, lowest, mapRows, FoundAs}
+use Rattle.aggregator.specs.Rows.{zeros, row, with_row, lowest, map_rows, FoundAs}
 
 -- ---- a search
 
@@ -149,54 +149,54 @@ module _ (a v r : List ℕ) (w i : ℕ) (long : length a ≡ w) where
   past_row : row w (a ++ v) (suc i) ≡ row w v i
   past_row = rw (suc-mul, add_comm, ← long, drop-append-add)
 
-  past-withRow : with_row w (a ++ v) (suc i) r ≡ a ++ with_row w v i r
-  past-withRow = rw (suc-mul, add_comm, ← long, drop-append-add, take-append-add, append_assoc)
+  past-with_row : with_row w (a ++ v) (suc i) r ≡ a ++ with_row w v i r
+  past-with_row = rw (suc-mul, add_comm, ← long, drop-append-add, take-append-add, append_assoc)
 
 -- ---- a table whose rows are replaced one by one
 
 -- k is the table v with f applied to the first i rows
 pub record Mapped (f : List ℕ → List ℕ) (w : ℕ) (v : List ℕ) (i : ℕ) (k : List ℕ) : Type 0 where
-  pub is : k ≡ mapRows f w i v
+  pub is : k ≡ map_rows f w i v
 
 module _ (f : List ℕ → List ℕ) (same : (t : List ℕ) → length (f t) ≡ length t) (w : ℕ) where
-  step : (i : ℕ) (v : List ℕ) → suc i * w ≤ length v → with_row w (mapRows f w i v) i (f (row w (mapRows f w i v) i)) ≡ mapRows f w (suc i) v
+  step : (i : ℕ) (v : List ℕ) → suc i * w ≤ length v → with_row w (map_rows f w i v) i (f (row w (map_rows f w i v) i)) ≡ map_rows f w (suc i) v
   step zero v h = rw zero-mul
   step (suc i) v h =
       let more : suc i * w + w ≤ length v = rw suc-mul at h in
       let long : length (f (take w v)) ≡ w = rw (same, length-take) (omega arith) in
       let rest : suc i * w ≤ length (drop w v) = rw length-drop (omega arith) in
-      past-withRow (f (take w v)) (mapRows f w i (drop w v)) (f (row w (mapRows f w (suc i) v) (suc i))) w i long ∙
-      ap (λ (r : List ℕ). f (take w v) ++ with_row w (mapRows f w i (drop w v)) i (f r)) (past_row (f (take w v)) (mapRows f w i (drop w v)) [] w i long) ∙
+      past-with_row (f (take w v)) (map_rows f w i (drop w v)) (f (row w (map_rows f w (suc i) v) (suc i))) w i long ∙
+      ap (λ (r : List ℕ). f (take w v) ++ with_row w (map_rows f w i (drop w v)) i (f r)) (past_row (f (take w v)) (map_rows f w i (drop w v)) [] w i long) ∙
       ap (λ (t : List ℕ). f (take w v) ++ t) (step i (drop w v) rest)
 
-  pub mapRows-length : (n : ℕ) (v : List ℕ) → length (mapRows f w n v) ≡ length v
-  mapRows-length zero v = refl
-  mapRows-length (suc n) v = rw (length-append, same, mapRows-length n, length-take, length-drop) (omega arith)
+  pub map_rows-length : (n : ℕ) (v : List ℕ) → length (map_rows f w n v) ≡ length v
+  map_rows-length zero v = refl
+  map_rows-length (suc n) v = rw (length-append, same, map_rows-length n, length-take, length-drop) (omega arith)
 
   -- each of the rows is replaced
-  pub mapRows-row : (n k : ℕ) (v : List ℕ) → k < n → n * w ≤ length v → row w (mapRows f w n v) k ≡ f (row w v k)
-  mapRows-row zero k v h l = absurd (omega arith)
-  mapRows-row (suc n) zero v h l =
+  pub map_rows-row : (n k : ℕ) (v : List ℕ) → k < n → n * w ≤ length v → row w (map_rows f w n v) k ≡ f (row w v k)
+  map_rows-row zero k v h l = absurd (omega arith)
+  map_rows-row (suc n) zero v h l =
       let more : n * w + w ≤ length v = rw suc-mul at l in
-      rw (zero-mul, take_at (f (take w v)) (mapRows f w n (drop w v)) w (rw (same, length-take) (omega arith)))
-  mapRows-row (suc n) (suc k) v h l =
+      rw (zero-mul, take_at (f (take w v)) (map_rows f w n (drop w v)) w (rw (same, length-take) (omega arith)))
+  map_rows-row (suc n) (suc k) v h l =
       let more : n * w + w ≤ length v = rw suc-mul at l in
       let rest : n * w ≤ length (drop w v) = rw length-drop (omega arith) in
-      past_row (f (take w v)) (mapRows f w n (drop w v)) [] w k (rw (same, length-take) (omega arith)) ∙
-      mapRows-row n k (drop w v) (omega arith) rest ∙
+      past_row (f (take w v)) (map_rows f w n (drop w v)) [] w k (rw (same, length-take) (omega arith)) ∙
+      map_rows-row n k (drop w v) (omega arith) rest ∙
       ap f (next_row w k v)
 
 -- rows that f leaves as they are
-pub mapRows-same : (f : List ℕ → List ℕ) (w n : ℕ) (v : List ℕ) → ((i : ℕ) → i < n → f (row w v i) ≡ row w v i) → mapRows f w n v ≡ v
-mapRows-same f w zero v h = refl
-mapRows-same f w (suc n) v h =
+pub map_rows-same : (f : List ℕ → List ℕ) (w n : ℕ) (v : List ℕ) → ((i : ℕ) → i < n → f (row w v i) ≡ row w v i) → map_rows f w n v ≡ v
+map_rows-same f w zero v h = refl
+map_rows-same f w (suc n) v h =
     let first : f (take w v) ≡ take w v = rw zero-mul at (h 0 (omega arith)) in
-    let rest : mapRows f w n (drop w v) ≡ drop w v = mapRows-same f w n (drop w v) (λ i b. rw next_row (h (suc i) (omega arith))) in
+    let rest : map_rows f w n (drop w v) ≡ drop w v = map_rows-same f w n (drop w v) (λ i b. rw next_row (h (suc i) (omega arith))) in
     rw (first, rest) (take-append-drop w v)
 
 module _ {f : List ℕ → List ℕ} {w : ℕ} {v k : List ℕ} {i : ℕ} (same : (t : List ℕ) → length (f t) ≡ length t) (m : Mapped f w v i k) where
   pub map-length : length k ≡ length v
-  map-length = rw m.is (mapRows-length f same w i v)
+  map-length = rw m.is (map_rows-length f same w i v)
 
   -- a turn that replaces row i by r, which is f of it
   pub map-store : (r : List ℕ) → i * w + w ≤ length v → r ≡ f (row w k i) → Mapped f w v (i + 1) (with_row w k i r)
@@ -217,40 +217,40 @@ module _ (w : ℕ) (v : List ℕ) (h : w ≤ length v) where
   split-row : (i : ℕ) (r : List ℕ) → with_row w v (suc i) r ≡ take w v ++ with_row w (drop w v) i r
   split-row i r =
       ap (λ (u : List ℕ). with_row w u (suc i) r) (sym (take-append-drop w v)) ∙
-      past-withRow (take w v) (drop w v) r w i first-long
+      past-with_row (take w v) (drop w v) r w i first-long
 
 module _ (w i : ℕ) (v : List ℕ) where
-  pub withRow-same : with_row w v i (row w v i) ≡ v
-  withRow-same = rw (take-append-drop w (drop (i * w) v), take-append-drop (i * w) v)
+  pub with_row-same : with_row w v i (row w v i) ≡ v
+  with_row-same = rw (take-append-drop w (drop (i * w) v), take-append-drop (i * w) v)
 
   module _ (r : List ℕ) (long : length r ≡ w) (h : i * w + w ≤ length v) where
     front_long : length (take (i * w) v) ≡ i * w
     front_long = length-take-le (i * w) v (omega arith)
 
-    pub withRow-row : row w (with_row w v i r) i ≡ r
-    withRow-row = rw (drop_at (take (i * w) v) (r ++ drop w (drop (i * w) v)) (i * w) front_long, take_at r (drop w (drop (i * w) v)) w long)
+    pub with_row-row : row w (with_row w v i r) i ≡ r
+    with_row-row = rw (drop_at (take (i * w) v) (r ++ drop w (drop (i * w) v)) (i * w) front_long, take_at r (drop w (drop (i * w) v)) w long)
 
-    pub withRow-length : length (with_row w v i r) ≡ length v
-    withRow-length = rw (length-append, length-append, front_long, long, length-drop, length-drop) (omega arith)
+    pub with_row-length : length (with_row w v i r) ≡ length v
+    with_row-length = rw (length-append, length-append, front_long, long, length-drop, length-drop) (omega arith)
 
 module _ (w : ℕ) (r : List ℕ) (long : length r ≡ w) where
   -- what holds of r as row i, and of each row as it is, holds of each once r is row i
-  pub withRow-each : (P : ℕ → List ℕ → Type 0) (i : ℕ) (v : List ℕ) → i * w + w ≤ length v → P i r → ((k : ℕ) → P k (row w v k)) → (k : ℕ) → P k (row w (with_row w v i r) k)
-  withRow-each P zero v h here all zero = rw (zero-mul, take_at r (drop w v) w long) here
-  withRow-each P zero v h here all (suc k) = rw (zero-mul, past_row r (drop w v) [] w k long, next_row) (all (suc k))
-  withRow-each P (suc i) v h here all zero =
+  pub with_row-each : (P : ℕ → List ℕ → Type 0) (i : ℕ) (v : List ℕ) → i * w + w ≤ length v → P i r → ((k : ℕ) → P k (row w v k)) → (k : ℕ) → P k (row w (with_row w v i r) k)
+  with_row-each P zero v h here all zero = rw (zero-mul, take_at r (drop w v) w long) here
+  with_row-each P zero v h here all (suc k) = rw (zero-mul, past_row r (drop w v) [] w k long, next_row) (all (suc k))
+  with_row-each P (suc i) v h here all zero =
       let w≤ : w ≤ length v = omega arith in
       rw (split-row w v w≤ i r, zero-mul, take_at (take w v) (with_row w (drop w v) i r) w (first-long w v w≤)) (rw zero-mul at (all zero))
-  withRow-each P (suc i) v h here all (suc k) =
+  with_row-each P (suc i) v h here all (suc k) =
       let more : i * w + w + w ≤ length v = rw suc-mul at h in
       let w≤ : w ≤ length v = omega arith in
       let rest : i * w + w ≤ length (drop w v) = rw length-drop (omega arith) in
       rw (split-row w v w≤ i r, past_row (take w v) (with_row w (drop w v) i r) [] w k (first-long w v w≤))
-      (withRow-each (λ (j : ℕ) (x : List ℕ). P (suc j) x) i (drop w v) rest here (λ j. rw next_row (all (suc j))) k)
+      (with_row-each (λ (j : ℕ) (x : List ℕ). P (suc j) x) i (drop w v) rest here (λ j. rw next_row (all (suc j))) k)
 
   -- any other row is as it was
-  pub withRow-other : (i : ℕ) (v : List ℕ) → i * w + w ≤ length v → (k : ℕ) → (k ≡ i → ⊥) → row w (with_row w v i r) k ≡ row w v k
-  withRow-other i v h = withRow-each (λ (j : ℕ) (x : List ℕ). (j ≡ i → ⊥) → x ≡ row w v j) i v h (λ n. absurd (n refl)) (λ k n. refl)
+  pub with_row-other : (i : ℕ) (v : List ℕ) → i * w + w ≤ length v → (k : ℕ) → (k ≡ i → ⊥) → row w (with_row w v i r) k ≡ row w v k
+  with_row-other i v h = with_row-each (λ (j : ℕ) (x : List ℕ). (j ≡ i → ⊥) → x ≡ row w v j) i v h (λ n. absurd (n refl)) (λ k n. refl)
 
 -- ---- zeros
 

@@ -29,88 +29,88 @@ use Rattle.aggregator.specs.declared.tallies.Added.TheVariants.{NoRoom, Used, Fu
 use Rattle.aggregator.specs.declared.tallies.Found.{Found}
 use Rattle.aggregator.specs.declared.tallies.Found.TheVariants.{At, Nothing}
 use Rattle.aggregator.specs.Rows.{zeros, row, with_row, FoundAs}
-use Rattle.aggregator.specs.Tally.{fields, places, voteWidth, timeoutWidth, usedOf, roundOf, weightOf, names_of, isFree, isVote, roundWith, ofRound, heavyWith, isHeavy, kept, newVote, newTimeout, hasName, no_high, withHigh, withAuthor, counted, answer_of, AddedAs}
-use Rattle.aggregator.specs.Tallies.{voteTallies, timeoutTallies, timeoutsLength, totalMax, findRow, findFree, findHeavy, heavy, anyHeavy, Light, joined, dropped, first_of, placeFor, opened, tableFor, TallyFor, Countable, answerAt, table_at, added, after, voteAdded, votesAfter, timeoutAdded, timeoutsAfter, highsAt, HighsAs}
-use Rattle.aggregator.proofs.Rows.{part-row, put_as, row_first, row_at, row_within, Scanned, scan-start, scan-hit, scan-miss, scan-end, scan-past, lowest-below, lowest-holds, none-lowest, withRow-same, withRow-row, withRow-length, withRow-each, mapRows-row, zeros-row}
+use Rattle.aggregator.specs.Tally.{fields, places, vote_width, timeout_width, used_of, round_of, weight_of, names_of, is_free, is_vote, round_with, of_round, heavy_with, is_heavy, kept, new_vote, new_timeout, has_name, no_high, with_high, with_author, counted, answer_of, AddedAs}
+use Rattle.aggregator.specs.Tallies.{vote_tallies, timeout_tallies, timeouts_length, total_max, find_row, find_free, find_heavy, heavy, any_heavy, Light, joined, dropped, first_of, place_for, opened, table_for, TallyFor, Countable, answer_at, table_at, added, after, vote_added, votes_after, timeout_added, timeouts_after, highs_at, HighsAs}
+use Rattle.aggregator.proofs.Rows.{part-row, put_as, row_first, row_at, row_within, Scanned, scan-start, scan-hit, scan-miss, scan-end, scan-past, lowest-below, lowest-holds, none-lowest, with_row-same, with_row-row, with_row-length, with_row-each, map_rows-row, zeros-row}
 use Rattle.aggregator.proofs.TallyLaws.{heavy-under, used-has, answer-some, answer-row, kept-length, kept-used, name-none, Kind, vote-kind, timeout-kind}
 
 -- ---- the searches that look at a tally's numbers where they lie
 
 module _ (w n : ℕ) (v : List ℕ) where
-  pub row-start : (test : List ℕ → Bool) → Scanned test w v n 0 (findRow test w n v)
-  unfolding findRow
+  pub row-start : (test : List ℕ → Bool) → Scanned test w v n 0 (find_row test w n v)
+  unfolding find_row
   row-start test = scan-start test w v n
 
-  pub free-start : Scanned isFree w v n 0 (findFree w n v)
-  unfolding findFree
-  free-start = row-start isFree
+  pub free-start : Scanned is_free w v n 0 (find_free w n v)
+  unfolding find_free
+  free-start = row-start is_free
 
-  pub heavy-start : (total : ℕ) → Scanned (isHeavy total) w v n 0 (findHeavy w n v total)
-  unfolding findHeavy
-  heavy-start total = row-start (isHeavy total)
+  pub heavy-start : (total : ℕ) → Scanned (is_heavy total) w v n 0 (find_heavy w n v total)
+  unfolding find_heavy
+  heavy-start total = row-start (is_heavy total)
 
 module _ {w n i : ℕ} {v : List ℕ} {r : Found} (wide : fields ≤ w) (h : i < n) where
-  pub free-hit : Scanned isFree w v n i r → get_or v (i * w) 0 ≡ 0 → FoundAs r n (At i)
+  pub free-hit : Scanned is_free w v n i r → get_or v (i * w) 0 ≡ 0 → FoundAs r n (At i)
   free-hit s e = scan-hit s h (eq-eqb _ _ (row_first w i v (omega arith) ∙ e))
 
-  pub free-miss : Scanned isFree w v n i r → (get_or v (i * w) 0 ≡ 0 → ⊥) → Scanned isFree w v n (i + 1) r
+  pub free-miss : Scanned is_free w v n i r → (get_or v (i * w) 0 ≡ 0 → ⊥) → Scanned is_free w v n (i + 1) r
   free-miss s e = scan-miss s h (ne_eqb _ _ (λ q. e (sym (row_first w i v (omega arith)) ∙ q)))
 
-  module _ (round : ℕ) {b : Bool} (s : Scanned (ofRound round) w v n i r) (is : b ≡ roundWith (get_or v (i * w) 0) (get_or v (i * w + 1) 0) round) where
+  module _ (round : ℕ) {b : Bool} (s : Scanned (of_round round) w v n i r) (is : b ≡ round_with (get_or v (i * w) 0) (get_or v (i * w + 1) 0) round) where
     pub of-hit : b ≡ true → FoundAs r n (At i)
-    unfolding ofRound
+    unfolding of_round
     of-hit e = scan-hit s h (rw (row_first w i v (omega arith), row_at w i 1 v (omega arith)) (sym is ∙ e))
 
-    pub of-miss : b ≡ false → Scanned (ofRound round) w v n (i + 1) r
-    unfolding ofRound
+    pub of-miss : b ≡ false → Scanned (of_round round) w v n (i + 1) r
+    unfolding of_round
     of-miss e = scan-miss s h (rw (row_first w i v (omega arith), row_at w i 1 v (omega arith)) (sym is ∙ e))
 
-  module _ (total : ℕ) {b : Bool} (s : Scanned (isHeavy total) w v n i r) (is : b ≡ heavyWith (get_or v (i * w) 0) (get_or v (i * w + 2) 0) total) where
+  module _ (total : ℕ) {b : Bool} (s : Scanned (is_heavy total) w v n i r) (is : b ≡ heavy_with (get_or v (i * w) 0) (get_or v (i * w + 2) 0) total) where
     pub heavy-hit : b ≡ true → FoundAs r n (At i)
     heavy-hit e = scan-hit s h (rw (row_first w i v (omega arith), row_at w i 2 v (omega arith)) (sym is ∙ e))
 
-    pub heavy-miss : b ≡ false → Scanned (isHeavy total) w v n (i + 1) r
+    pub heavy-miss : b ≡ false → Scanned (is_heavy total) w v n (i + 1) r
     heavy-miss e = scan-miss s h (rw (row_first w i v (omega arith), row_at w i 2 v (omega arith)) (sym is ∙ e))
 
 -- ---- the tally that a test asks for
 
-module _ {test : List ℕ → Bool} {new v : List ℕ} {w n : ℕ} {r : Found} (a : FoundAs (findRow test w n v) n r) where
+module _ {test : List ℕ → Bool} {new v : List ℕ} {w n : ℕ} {r : Found} (a : FoundAs (find_row test w n v) n r) where
   pub tally-found : {i : ℕ} → r ≡ At i → TallyFor test new w n v (At i) v
-  unfolding placeFor tableFor
+  unfolding place_for table_for
   tally-found {i} e =
-      let f : findRow test w n v ≡ At i = sym a.is ∙ e in
+      let f : find_row test w n v ≡ At i = sym a.is ∙ e in
       record { place = rw f; table = rw f; below = λ j q. let z : i ≡ j = cc in omega (arith, a.below i e) }
 
-  module _ (e : r ≡ Nothing) {g : Found} (b : FoundAs (findFree w n v) n g) where
+  module _ (e : r ≡ Nothing) {g : Found} (b : FoundAs (find_free w n v) n g) where
     pub tally-opened : {i : ℕ} {v' : List ℕ} → g ≡ At i → v' ≡ with_row w v i new → TallyFor test new w n v (At i) v'
-    unfolding placeFor tableFor
+    unfolding place_for table_for
     tally-opened {i} q t =
-        let f : findRow test w n v ≡ Nothing = sym a.is ∙ e in
-        let h : findFree w n v ≡ At i = sym b.is ∙ q in
+        let f : find_row test w n v ≡ Nothing = sym a.is ∙ e in
+        let h : find_free w n v ≡ At i = sym b.is ∙ q in
         record { place = rw (f, h); table = rw (f, h) t; below = λ j y. let z : i ≡ j = cc in omega (arith, b.below i q) }
 
     pub tally-none : g ≡ Nothing → TallyFor test new w n v Nothing v
-    unfolding placeFor tableFor
+    unfolding place_for table_for
     tally-none q =
-        let f : findRow test w n v ≡ Nothing = sym a.is ∙ e in
-        let h : findFree w n v ≡ Nothing = sym b.is ∙ q in
+        let f : find_row test w n v ≡ Nothing = sym a.is ∙ e in
+        let h : find_free w n v ≡ Nothing = sym b.is ∙ q in
         record { place = rw (f, h); table = rw (f, h); below = λ j y. let z : ◌≡◌ {A = ℕ} 0 1 = cc in omega arith }
 
 module _ (test : List ℕ → Bool) (new : List ℕ) (w n : ℕ) (v : List ℕ) where
-  row_below : (p : List ℕ → Bool) (i : ℕ) → findRow p w n v ≡ At i → i < n
-  unfolding findRow
+  row_below : (p : List ℕ → Bool) (i : ℕ) → find_row p w n v ≡ At i → i < n
+  unfolding find_row
   row_below p i e = omega (arith, lowest-below p w v n 0 i e)
 
-  free-below : (i : ℕ) → findFree w n v ≡ At i → i < n
-  unfolding findFree
-  free-below i e = row_below isFree i e
+  free-below : (i : ℕ) → find_free w n v ≡ At i → i < n
+  unfolding find_free
+  free-below i e = row_below is_free i e
 
   -- its place and its table, as they are defined
-  pub tally-for : TallyFor test new w n v (placeFor test w n v) (tableFor test new w n v)
-  unfolding placeFor
-  tally-for = record { place = refl; table = refl; below = λ i e. cases (findRow test w n v) (findFree w n v) refl refl i e }
+  pub tally-for : TallyFor test new w n v (place_for test w n v) (table_for test new w n v)
+  unfolding place_for
+  tally-for = record { place = refl; table = refl; below = λ i e. cases (find_row test w n v) (find_free w n v) refl refl i e }
     where
-      cases : (f g : Found) → findRow test w n v ≡ f → findFree w n v ≡ g → (i : ℕ) → first_of f g ≡ At i → i < n
+      cases : (f g : Found) → find_row test w n v ≡ f → find_free w n v ≡ g → (i : ℕ) → first_of f g ≡ At i → i < n
       cases (At j) g a b i e = row_below test i (a ∙ e)
       cases Nothing g a b i e = free-below i (b ∙ e)
 
@@ -119,8 +119,8 @@ tally-below t e = t.below _ e
 
 -- where there is no room the table is as it was
 pub tally-full : {test : List ℕ → Bool} {new : List ℕ} {w n : ℕ} {v v' : List ℕ} → TallyFor test new w n v Nothing v' → v' ≡ v
-unfolding placeFor tableFor
-tally-full {test} {new} {w} {n} {v} {v'} h = cases (findRow test w n v) (findFree w n v) h.place h.table
+unfolding place_for table_for
+tally-full {test} {new} {w} {n} {v} {v'} h = cases (find_row test w n v) (find_free w n v) h.place h.table
   where
     cases : (f g : Found) → Nothing ≡ first_of f g → v' ≡ opened new w v f g → v' ≡ v
     cases (At j) g p t = t
@@ -130,19 +130,19 @@ tally-full {test} {new} {w} {n} {v} {v'} h = cases (findRow test w n v) (findFre
 -- The tally at i is one that was there and passes the test, or the new one, where none was in use.
 pub data Stands (test : List ℕ → Bool) (new : List ℕ) (w : ℕ) (v : List ℕ) (i : ℕ) (v' : List ℕ) : Type 0 where
   was-there : v' ≡ v → test (row w v i) ≡ true → Stands test new w v i v'
-  was-new : v' ≡ with_row w v i new → row w v' i ≡ new → usedOf (row w v i) ≡ 0 → Stands test new w v i v'
+  was-new : v' ≡ with_row w v i new → row w v' i ≡ new → used_of (row w v i) ≡ 0 → Stands test new w v i v'
 
 module _ {test : List ℕ → Bool} {new : List ℕ} {mark : List ℕ → List ℕ} {w n : ℕ} {v v' : List ℕ} {i : ℕ} (k : Kind test new mark w) (long : n * w ≤ length v) (h : TallyFor test new w n v (At i) v') where
   pub tally-stands : Stands test new w v i v'
-  unfolding placeFor tableFor findRow findFree
-  tally-stands = cases (findRow test w n v) (findFree w n v) refl refl h.place h.table
+  unfolding place_for table_for find_row find_free
+  tally-stands = cases (find_row test w n v) (find_free w n v) refl refl h.place h.table
     where
-      cases : (f g : Found) → f ≡ findRow test w n v → g ≡ findFree w n v → At i ≡ first_of f g → v' ≡ opened new w v f g → Stands test new w v i v'
+      cases : (f g : Found) → f ≡ find_row test w n v → g ≡ find_free w n v → At i ≡ first_of f g → v' ≡ opened new w v f g → Stands test new w v i v'
       cases (At j) g e q p t = let z : i ≡ j = cc in was-there t (rw z (lowest-holds test w v n 0 j (sym e)))
       cases Nothing (At j) e q p t =
           let z : j ≡ i = cc in
           let s : v' ≡ with_row w v i new = rw z at t in
-          was-new s (rw s (withRow-row w i v new k.size (row_within w i n v (h.below i refl) long))) (rw (← z) (eqb-true _ _ (lowest-holds isFree w v n 0 j (sym q))))
+          was-new s (rw s (with_row-row w i v new k.size (row_within w i n v (h.below i refl) long))) (rw (← z) (eqb-true _ _ (lowest-holds is_free w v n 0 j (sym q))))
       cases Nothing Nothing e q p t = absurd (let z : ◌≡◌ {A = ℕ} 0 1 = cc in omega arith)
 
   pub tally-passes : test (row w v' i) ≡ true
@@ -153,7 +153,7 @@ module _ {test : List ℕ → Bool} {new : List ℕ} {mark : List ℕ → List �
       cases (was-new a b d) = rw b k.passes
 
   -- a used name is one of a tally that was there
-  pub tally-reused : (p : ℕ) → hasName (names_of (row w v' i)) p ≡ true → v' ≡ v
+  pub tally-reused : (p : ℕ) → has_name (names_of (row w v' i)) p ≡ true → v' ≡ v
   tally-reused p e = cases tally-stands
     where
       cases : Stands test new w v i v' → v' ≡ v
@@ -165,13 +165,13 @@ module _ {test : List ℕ → Bool} {new : List ℕ} {mark : List ℕ → List �
     where
       cases : Stands test new w v i v' → length v' ≡ length v
       cases (was-there a b) = ap length a
-      cases (was-new a b d) = rw a (withRow-length w i v new k.size (row_within w i n v (h.below i refl) long))
+      cases (was-new a b d) = rw a (with_row-length w i v new k.size (row_within w i n v (h.below i refl) long))
 
   -- where none in use is too heavy, this one is not
-  pub tally-light : (total : ℕ) → Light w n v total → weightOf (row w v' i) ≤ total
+  pub tally-light : (total : ℕ) → Light w n v total → weight_of (row w v' i) ≤ total
   tally-light total l = cases tally-stands
     where
-      cases : Stands test new w v i v' → weightOf (row w v' i) ≤ total
+      cases : Stands test new w v i v' → weight_of (row w v' i) ≤ total
       cases (was-there a b) = rw a (l.weight i (h.below i refl) (k.used _ b))
       cases (was-new a b d) = rw b (omega (arith, k.weight))
 
@@ -188,8 +188,8 @@ append-part mark w i v p stake need c =
 
 -- the stake of one more author fits
 add-fits : {test : List ℕ → Bool} {new : List ℕ} {mark : List ℕ → List ℕ} {w n p stake : ℕ} {v v' : List ℕ} {i : ℕ} → Kind test new mark w → TallyFor test new w n v (At i) v'
-    → Countable w n v p stake → weightOf (row w v' i) + stake < 2 ^ 64
-add-fits k t c = omega (arith, tally-light k (omega (arith, c.long)) t totalMax c.light)
+    → Countable w n v p stake → weight_of (row w v' i) + stake < 2 ^ 64
+add-fits k t c = omega (arith, tally-light k (omega (arith, c.long)) t total_max c.light)
 
 module _ {test : List ℕ → Bool} {new : List ℕ} {mark : List ℕ → List ℕ} {w n : ℕ} {v v' : List ℕ} {f : Found} (k : Kind test new mark w) (p stake need : ℕ) (t : TallyFor test new w n v f v') where
   add-full : f ≡ Nothing → AddedAs (added test new w n v p stake need) (after test new mark w n v p stake need) NoRoom v'
@@ -203,41 +203,41 @@ module _ {test : List ℕ → Bool} {new : List ℕ} {mark : List ℕ → List �
   add-counted {i} {r} {v''} l e c =
       record {
         answer = rw (← t.place, e, ← t.table) c.answer;
-        table = rw (← t.place, e, ← t.table) (cases (hasName (names_of (row w v' i)) p) refl c.table);
+        table = rw (← t.place, e, ← t.table) (cases (has_name (names_of (row w v' i)) p) refl c.table);
       }
     where
-      cases : (b : Bool) → b ≡ hasName (names_of (row w v' i)) p → v'' ≡ with_row w v' i (cond b (row w v' i) (withAuthor mark (row w v' i) p stake need))
-          → v'' ≡ cond b v (with_row w v' i (withAuthor mark (row w v' i) p stake need))
-      cases true q s = s ∙ withRow-same w i v' ∙ tally-reused k l (rw e at t) p (sym q)
+      cases : (b : Bool) → b ≡ has_name (names_of (row w v' i)) p → v'' ≡ with_row w v' i (cond b (row w v' i) (with_author mark (row w v' i) p stake need))
+          → v'' ≡ cond b v (with_row w v' i (with_author mark (row w v' i) p stake need))
+      cases true q s = s ∙ with_row-same w i v' ∙ tally-reused k l (rw e at t) p (sym q)
       cases false q s = s
 
-module _ (votes : List ℕ) (round : ℕ) (hash : Hash) (p stake need : ℕ) {v' : List ℕ} {f : Found} (t : TallyFor (isVote round hash) (newVote round hash) voteWidth voteTallies votes f v') where
-  pub added-vote-full : f ≡ Nothing → AddedAs (voteAdded votes round hash p stake need) (votesAfter votes round hash p stake need) NoRoom v'
-  unfolding voteAdded votesAfter
+module _ (votes : List ℕ) (round : ℕ) (hash : Hash) (p stake need : ℕ) {v' : List ℕ} {f : Found} (t : TallyFor (is_vote round hash) (new_vote round hash) vote_width vote_tallies votes f v') where
+  pub added-vote-full : f ≡ Nothing → AddedAs (vote_added votes round hash p stake need) (votes_after votes round hash p stake need) NoRoom v'
+  unfolding vote_added votes_after
   added-vote-full = add-full (vote-kind round hash) p stake need t
 
-  module _ {i : ℕ} (e : f ≡ At i) (c : Countable voteWidth voteTallies votes p stake) where
-    pub added-vote-fits : weightOf (row voteWidth v' i) + stake < 2 ^ 64
+  module _ {i : ℕ} (e : f ≡ At i) (c : Countable vote_width vote_tallies votes p stake) where
+    pub added-vote-fits : weight_of (row vote_width v' i) + stake < 2 ^ 64
     added-vote-fits = add-fits (vote-kind round hash) (rw e at t) c
 
-    pub added-vote-counted : {r : Added} {v'' : List ℕ} → AddedAs (answer_of i (row voteWidth v' i) p stake need) (with_row voteWidth v' i (counted no_high (row voteWidth v' i) p stake need)) r v''
-        → AddedAs (voteAdded votes round hash p stake need) (votesAfter votes round hash p stake need) r v''
-    unfolding voteAdded votesAfter
+    pub added-vote-counted : {r : Added} {v'' : List ℕ} → AddedAs (answer_of i (row vote_width v' i) p stake need) (with_row vote_width v' i (counted no_high (row vote_width v' i) p stake need)) r v''
+        → AddedAs (vote_added votes round hash p stake need) (votes_after votes round hash p stake need) r v''
+    unfolding vote_added votes_after
     added-vote-counted = add-counted (vote-kind round hash) p stake need t (omega arith) e
 
-module _ (timeouts : List ℕ) (round p stake need high : ℕ) {v' : List ℕ} {f : Found} (t : TallyFor (ofRound round) (newTimeout round) timeoutWidth timeoutTallies timeouts f v') where
-  pub added-timeout-full : f ≡ Nothing → AddedAs (timeoutAdded timeouts round p stake need) (timeoutsAfter timeouts round p stake need high) NoRoom v'
-  unfolding timeoutAdded timeoutsAfter
+module _ (timeouts : List ℕ) (round p stake need high : ℕ) {v' : List ℕ} {f : Found} (t : TallyFor (of_round round) (new_timeout round) timeout_width timeout_tallies timeouts f v') where
+  pub added-timeout-full : f ≡ Nothing → AddedAs (timeout_added timeouts round p stake need) (timeouts_after timeouts round p stake need high) NoRoom v'
+  unfolding timeout_added timeouts_after
   added-timeout-full = add-full (timeout-kind round p high) p stake need t
 
-  module _ {i : ℕ} (e : f ≡ At i) (c : Countable timeoutWidth timeoutTallies timeouts p stake) where
-    pub added-timeout-fits : weightOf (row timeoutWidth v' i) + stake < 2 ^ 64
+  module _ {i : ℕ} (e : f ≡ At i) (c : Countable timeout_width timeout_tallies timeouts p stake) where
+    pub added-timeout-fits : weight_of (row timeout_width v' i) + stake < 2 ^ 64
     added-timeout-fits = add-fits (timeout-kind round p high) (rw e at t) c
 
     pub added-timeout-counted : {r : Added} {v'' : List ℕ}
-        → AddedAs (answer_of i (row timeoutWidth v' i) p stake need) (with_row timeoutWidth v' i (counted (withHigh p high) (row timeoutWidth v' i) p stake need)) r v''
-        → AddedAs (timeoutAdded timeouts round p stake need) (timeoutsAfter timeouts round p stake need high) r v''
-    unfolding timeoutAdded timeoutsAfter
+        → AddedAs (answer_of i (row timeout_width v' i) p stake need) (with_row timeout_width v' i (counted (with_high p high) (row timeout_width v' i) p stake need)) r v''
+        → AddedAs (timeout_added timeouts round p stake need) (timeouts_after timeouts round p stake need high) r v''
+    unfolding timeout_added timeouts_after
     added-timeout-counted = add-counted (timeout-kind round p high) p stake need t (omega arith) e
 
 -- ---- what an answer says
@@ -246,28 +246,28 @@ module _ (test : List ℕ → Bool) (new : List ℕ) (w n : ℕ) (v : List ℕ) 
   -- a refusal leaves the table as it was
   pub added-no-room : (mark : List ℕ → List ℕ) → added test new w n v p stake need ≡ NoRoom → after test new mark w n v p stake need ≡ v
   unfolding added after
-  added-no-room mark e = cases (placeFor test w n v) e
+  added-no-room mark e = cases (place_for test w n v) e
     where
-      cases : (f : Found) → answerAt w (tableFor test new w n v) p stake need f ≡ NoRoom → table_at mark w v (tableFor test new w n v) p stake need f ≡ v
+      cases : (f : Found) → answer_at w (table_for test new w n v) p stake need f ≡ NoRoom → table_at mark w v (table_for test new w n v) p stake need f ≡ v
       cases Nothing q = refl
-      cases (At i) q = absurd (answer-some i (row w (tableFor test new w n v) i) p stake need q)
+      cases (At i) q = absurd (answer-some i (row w (table_for test new w n v) i) p stake need q)
 
   pub added-used : (mark : List ℕ → List ℕ) → added test new w n v p stake need ≡ Used → after test new mark w n v p stake need ≡ v
   unfolding added after
-  added-used mark e = cases (placeFor test w n v) e
+  added-used mark e = cases (place_for test w n v) e
     where
-      cases : (f : Found) → answerAt w (tableFor test new w n v) p stake need f ≡ Used → table_at mark w v (tableFor test new w n v) p stake need f ≡ v
+      cases : (f : Found) → answer_at w (table_for test new w n v) p stake need f ≡ Used → table_at mark w v (table_for test new w n v) p stake need f ≡ v
       cases Nothing q = refl
-      cases (At i) q = rw (used-has i (row w (tableFor test new w n v) i) p stake need (sym q))
+      cases (At i) q = rw (used-has i (row w (table_for test new w n v) i) p stake need (sym q))
 
   -- the row of a quorum is one of the table's
   pub added-below : {i : ℕ} {s : Signers} → added test new w n v p stake need ≡ Full i s → i < n
   unfolding added
-  added-below {i} {s} e = cases (placeFor test w n v) refl e
+  added-below {i} {s} e = cases (place_for test w n v) refl e
     where
-      cases : (f : Found) → placeFor test w n v ≡ f → answerAt w (tableFor test new w n v) p stake need f ≡ Full i s → i < n
+      cases : (f : Found) → place_for test w n v ≡ f → answer_at w (table_for test new w n v) p stake need f ≡ Full i s → i < n
       cases Nothing z q = absurd (let y : ◌≡◌ {A = ℕ} 0 1 = cc in omega arith)
-      cases (At j) z q = rw (← answer-row j (row w (tableFor test new w n v) j) p stake need q) ((tally-for test new w n v).below j z)
+      cases (At j) z q = rw (← answer-row j (row w (table_for test new w n v) j) p stake need q) ((tally-for test new w n v).below j z)
 
 -- ---- the ways of `weights_of`
 
@@ -287,58 +287,58 @@ unfolding joined
 joined-more w i v wide h = rw (h, ← row_at w i 2 v (omega arith), add-one)
 
 -- no weight is above it
-joined-above : (w n i : ℕ) (v : List ℕ) → i < n → weightOf (row w v i) ≤ joined w n v
+joined-above : (w n i : ℕ) (v : List ℕ) → i < n → weight_of (row w v i) ≤ joined w n v
 unfolding joined
 joined-above w zero i v h = absurd (omega arith)
 joined-above w (suc n) i v h =
-    let x = weightOf (row w v n) in
+    let x = weight_of (row w v n) in
     ⊎_elim (λ (z : i ≡ n). rw z (or-le-r (joined w n v) x)) (λ (z : i < n). omega (arith, joined-above w n i v z, or-le-l (joined w n v) x)) (eq-or-lt_of_le (omega arith))
 
 -- ---- the ways of `any_heavy`
 
 -- of both tables: what all tallies give is what those from row i on give
 pub record Looked (votes timeouts : List ℕ) (total i : ℕ) : Type 0 where
-  pub of-votes : Scanned (isHeavy total) voteWidth votes voteTallies i (findHeavy voteWidth voteTallies votes total)
-  pub of-timeouts : Scanned (isHeavy total) timeoutWidth timeouts timeoutTallies i (findHeavy timeoutWidth timeoutTallies timeouts total)
+  pub of-votes : Scanned (is_heavy total) vote_width votes vote_tallies i (find_heavy vote_width vote_tallies votes total)
+  pub of-timeouts : Scanned (is_heavy total) timeout_width timeouts timeout_tallies i (find_heavy timeout_width timeout_tallies timeouts total)
 
 pub look-start : (votes timeouts : List ℕ) (total : ℕ) → Looked votes timeouts total 0
-look-start votes timeouts total = record { of-votes = heavy-start voteWidth voteTallies votes total; of-timeouts = heavy-start timeoutWidth timeoutTallies timeouts total }
+look-start votes timeouts total = record { of-votes = heavy-start vote_width vote_tallies votes total; of-timeouts = heavy-start timeout_width timeout_tallies timeouts total }
 
 module _ (w n : ℕ) (v : List ℕ) (total : ℕ) where
-  heavy-some : {i : ℕ} → FoundAs (findHeavy w n v total) n (At i) → heavy w n v total ≡ true
+  heavy-some : {i : ℕ} → FoundAs (find_heavy w n v total) n (At i) → heavy w n v total ≡ true
   unfolding heavy
   heavy-some f = rw (← f.is)
 
-  heavy-none : FoundAs (findHeavy w n v total) n Nothing → heavy w n v total ≡ false
+  heavy-none : FoundAs (find_heavy w n v total) n Nothing → heavy w n v total ≡ false
   unfolding heavy
   heavy-none f = rw (← f.is)
 
   -- where no weight is above the total, none in use is
   heavy-never : joined w n v ≤ total → heavy w n v total ≡ false
-  unfolding heavy findHeavy findRow
+  unfolding heavy find_heavy find_row
   heavy-never l =
-      rw (none-lowest (isHeavy total) w v n 0 (λ i a b. sym (heavy-under (usedOf (row w v i)) (weightOf (row w v i)) total (omega (arith, joined-above w n i v (omega arith))))))
+      rw (none-lowest (is_heavy total) w v n 0 (λ i a b. sym (heavy-under (used_of (row w v i)) (weight_of (row w v i)) total (omega (arith, joined-above w n i v (omega arith))))))
 
 module _ {votes timeouts : List ℕ} {total i : ℕ} (s : Looked votes timeouts total i) where
-  pub look-end : voteTallies ≤ i → false ≡ anyHeavy votes timeouts total
-  unfolding anyHeavy
+  pub look-end : vote_tallies ≤ i → false ≡ any_heavy votes timeouts total
+  unfolding any_heavy
   look-end h =
-      rw (heavy-none voteWidth voteTallies votes total (scan-end s.of-votes h), heavy-none timeoutWidth timeoutTallies timeouts total (scan-end s.of-timeouts (omega arith)))
+      rw (heavy-none vote_width vote_tallies votes total (scan-end s.of-votes h), heavy-none timeout_width timeout_tallies timeouts total (scan-end s.of-timeouts (omega arith)))
 
-  module _ (h : i < voteTallies) {b : Bool} (is : b ≡ heavyWith (get_or votes (i * voteWidth) 0) (get_or votes (i * voteWidth + 2) 0) total) where
-    pub look-vote : b ≡ true → true ≡ anyHeavy votes timeouts total
-    unfolding anyHeavy
-    look-vote e = rw (heavy-some voteWidth voteTallies votes total (heavy-hit (omega arith) h total s.of-votes is e))
+  module _ (h : i < vote_tallies) {b : Bool} (is : b ≡ heavy_with (get_or votes (i * vote_width) 0) (get_or votes (i * vote_width + 2) 0) total) where
+    pub look-vote : b ≡ true → true ≡ any_heavy votes timeouts total
+    unfolding any_heavy
+    look-vote e = rw (heavy-some vote_width vote_tallies votes total (heavy-hit (omega arith) h total s.of-votes is e))
 
     -- there are fewer tallies of timeouts
-    pub look-past : b ≡ false → timeoutTallies ≤ i → Looked votes timeouts total (i + 1)
+    pub look-past : b ≡ false → timeout_tallies ≤ i → Looked votes timeouts total (i + 1)
     look-past e l = record { of-votes = heavy-miss (omega arith) h total s.of-votes is e; of-timeouts = scan-past s.of-timeouts l }
 
-    module _ (l : i < timeoutTallies) {d : Bool} (of : d ≡ heavyWith (get_or timeouts (i * timeoutWidth) 0) (get_or timeouts (i * timeoutWidth + 2) 0) total) where
-      pub look-timeout : d ≡ true → true ≡ anyHeavy votes timeouts total
-      unfolding anyHeavy
+    module _ (l : i < timeout_tallies) {d : Bool} (of : d ≡ heavy_with (get_or timeouts (i * timeout_width) 0) (get_or timeouts (i * timeout_width + 2) 0) total) where
+      pub look-timeout : d ≡ true → true ≡ any_heavy votes timeouts total
+      unfolding any_heavy
       look-timeout f =
-          rw (heavy-some timeoutWidth timeoutTallies timeouts total (heavy-hit (omega arith) l total s.of-timeouts of f)) (either (heavy voteWidth voteTallies votes total))
+          rw (heavy-some timeout_width timeout_tallies timeouts total (heavy-hit (omega arith) l total s.of-timeouts of f)) (either (heavy vote_width vote_tallies votes total))
         where
           either : (b : Bool) → true ≡ b || true
           either true = refl
@@ -351,42 +351,42 @@ module _ {votes timeouts : List ℕ} {total i : ℕ} (s : Looked votes timeouts 
 -- ---- the ways out of `are_light`
 
 module _ (votes timeouts : List ℕ) (total : ℕ) where
-  pub are-light-joined : {a b : ℕ} → a ≡ joined voteWidth voteTallies votes → b ≡ joined timeoutWidth timeoutTallies timeouts → bit_or a b ≤ total
-      → true ≡ not (anyHeavy votes timeouts total)
-  unfolding anyHeavy
+  pub are-light-joined : {a b : ℕ} → a ≡ joined vote_width vote_tallies votes → b ≡ joined timeout_width timeout_tallies timeouts → bit_or a b ≤ total
+      → true ≡ not (any_heavy votes timeouts total)
+  unfolding any_heavy
   are-light-joined {a} {b} h k l =
-      rw (heavy-never voteWidth voteTallies votes total (omega (arith, h, or-le-l a b)), heavy-never timeoutWidth timeoutTallies timeouts total (omega (arith, k, or-le-r a b)))
+      rw (heavy-never vote_width vote_tallies votes total (omega (arith, h, or-le-l a b)), heavy-never timeout_width timeout_tallies timeouts total (omega (arith, k, or-le-r a b)))
 
-  module _ {b : Bool} (is : b ≡ anyHeavy votes timeouts total) where
-    pub are-light-not : b ≡ true → false ≡ not (anyHeavy votes timeouts total)
+  module _ {b : Bool} (is : b ≡ any_heavy votes timeouts total) where
+    pub are-light-not : b ≡ true → false ≡ not (any_heavy votes timeouts total)
     are-light-not e = rw (← is, e)
 
-    pub are-light-all : b ≡ false → true ≡ not (anyHeavy votes timeouts total)
+    pub are-light-all : b ≡ false → true ≡ not (any_heavy votes timeouts total)
     are-light-all e = rw (← is, e)
 
 -- ---- the high rounds
 
-module _ (v : List ℕ) (i : ℕ) (long : length v ≡ timeoutsLength) (within : i < timeoutTallies) where
+module _ (v : List ℕ) (i : ℕ) (long : length v ≡ timeouts_length) (within : i < timeout_tallies) where
   -- as they lie in the row, and in the table
-  highs-split : highsAt v i ≡ take places (drop fields (drop (i * timeoutWidth) v))
-  unfolding highsAt
+  highs-split : highs_at v i ≡ take places (drop fields (drop (i * timeout_width) v))
+  unfolding highs_at
   highs-split =
-      let past = drop (i * timeoutWidth) v in
+      let past = drop (i * timeout_width) v in
       let l : fields ≤ length past = rw length-drop (omega arith) in
       ap (λ (t : List ℕ). drop fields t) (take-add fields places past) ∙ drop_at (take fields past) (take places (drop fields past)) fields (length-take-le fields past l)
 
-  pub highs-part : HighsAs v i (take (i * timeoutWidth + fields + places - (i * timeoutWidth + fields)) (drop (i * timeoutWidth + fields) v))
+  pub highs-part : HighsAs v i (take (i * timeout_width + fields + places - (i * timeout_width + fields)) (drop (i * timeout_width + fields) v))
   highs-part =
-      let e : i * timeoutWidth + fields + places - (i * timeoutWidth + fields) ≡ places = omega arith in
+      let e : i * timeout_width + fields + places - (i * timeout_width + fields) ≡ places = omega arith in
       record {
-        is = rw (e, ← drop-drop fields (i * timeoutWidth) v) (sym highs-split);
+        is = rw (e, ← drop-drop fields (i * timeout_width) v) (sym highs-split);
         long = rw (e, length-take, length-drop) (omega arith);
       }
 
 -- ---- what holds of every tally in use
 
 pub record Each (P : List ℕ → Type 0) (w n : ℕ) (v : List ℕ) : Type 0 where
-  pub at : (i : ℕ) → i < n → (usedOf (row w v i) ≡ 0 → ⊥) → P (row w v i)
+  pub at : (i : ℕ) → i < n → (used_of (row w v i) ≡ 0 → ⊥) → P (row w v i)
 
 module _ (P : List ℕ → Type 0) (w n : ℕ) where
   -- none is in use
@@ -399,23 +399,23 @@ module _ (P : List ℕ → Type 0) (w n : ℕ) where
   each-dropped v round l e =
       record {
         at = λ i b u.
-            let r = mapRows-row (kept round) (kept-length round) w n i v b l in
+            let r = map_rows-row (kept round) (kept-length round) w n i v b l in
             let k = kept-used round (row w v i) (λ z. u (rw r z)) in
             rw (r, k.0) (e.at i b (λ z. u (rw (r, k.0) z)));
       }
 
   -- another row i
-  each-withRow : (v : List ℕ) (i : ℕ) (r : List ℕ) → length r ≡ w → i < n → n * w ≤ length v → P r → Each P w n v → Each P w n (with_row w v i r)
-  each-withRow v i r s b l h e =
-      record { at = withRow-each w r s (λ (k : ℕ) (x : List ℕ). k < n → (usedOf x ≡ 0 → ⊥) → P x) i v (row_within w i n v b l) (λ a u. h) e.at }
+  each-with_row : (v : List ℕ) (i : ℕ) (r : List ℕ) → length r ≡ w → i < n → n * w ≤ length v → P r → Each P w n v → Each P w n (with_row w v i r)
+  each-with_row v i r s b l h e =
+      record { at = with_row-each w r s (λ (k : ℕ) (x : List ℕ). k < n → (used_of x ≡ 0 → ⊥) → P x) i v (row_within w i n v b l) (λ a u. h) e.at }
 
 -- every tally in use that is left is not below the round
-pub each-round : (w n : ℕ) (v : List ℕ) (round : ℕ) → n * w ≤ length v → Each (λ (t : List ℕ). round ≤ roundOf t) w n (dropped w n v round)
+pub each-round : (w n : ℕ) (v : List ℕ) (round : ℕ) → n * w ≤ length v → Each (λ (t : List ℕ). round ≤ round_of t) w n (dropped w n v round)
 unfolding dropped
 each-round w n v round l =
     record {
       at = λ i b u.
-          let r = mapRows-row (kept round) (kept-length round) w n i v b l in
+          let r = map_rows-row (kept round) (kept-length round) w n i v b l in
           let k = kept-used round (row w v i) (λ z. u (rw r z)) in
           rw (r, k.0) k.1;
     }

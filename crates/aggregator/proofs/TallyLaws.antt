@@ -21,46 +21,46 @@ use lib.ListN.{length, get_or, set, length-set, length-replicate}
 use lib.Seq.{get_or-set_same, get_or-set_other}
 use Rattle.certificates.specs.declared.numbers.Hash.{Hash}
 use Rattle.certificates.specs.declared.numbers.Signers.{Signers}
-use Rattle.certificates.specs.Numbers.{sameHash}
+use Rattle.certificates.specs.Numbers.{same_hash}
 use Rattle.certificates.proofs.NumbersLaws.{both, hash-same}
 use Rattle.aggregator.specs.declared.tallies.Added.{Added}
 use Rattle.aggregator.specs.declared.tallies.Added.TheVariants.{NoRoom, Used, More, Full}
 use Rattle.aggregator.specs.Rows.{zeros}
-use Rattle.aggregator.specs.Tally.{fields, places, voteWidth, timeoutWidth, usedOf, roundOf, weightOf, names_of, hashOf, isFree, isVote, roundWith, ofRound, heavyWith, kept, newVote, newTimeout, hasName, withName, signers, withHigh, no_high, withAuthor, counted, answer_of, AddedAs}
+use Rattle.aggregator.specs.Tally.{fields, places, vote_width, timeout_width, used_of, round_of, weight_of, names_of, hash_of, is_free, is_vote, round_with, of_round, heavy_with, kept, new_vote, new_timeout, has_name, with_name, signers, with_high, no_high, with_author, counted, answer_of, AddedAs}
 use Rattle.aggregator.proofs.Rows.{one_shl, zeros-at}
 
 -- ---- the ways out of the functions on a tally
 
 module _ (round : ℕ) (hash : Hash) (t : List ℕ) where
-  pub is-vote-free : get_or t 0 0 ≡ 0 → false ≡ isVote round hash t
-  unfolding isVote
+  pub is-vote-free : get_or t 0 0 ≡ 0 → false ≡ is_vote round hash t
+  unfolding is_vote
   is-vote-free h = rw (eq-eqb _ _ h)
 
   module _ (u : get_or t 0 0 ≡ 0 → ⊥) where
-    pub is-vote-same : {b : Bool} → get_or t 1 0 ≡ round → b ≡ sameHash (hashOf t) hash → b ≡ isVote round hash t
-    unfolding isVote
+    pub is-vote-same : {b : Bool} → get_or t 1 0 ≡ round → b ≡ same_hash (hash_of t) hash → b ≡ is_vote round hash t
+    unfolding is_vote
     is-vote-same r e = rw (ne_eqb _ _ u, eq-eqb _ _ r) e
 
-    pub is-vote-other : (get_or t 1 0 ≡ round → ⊥) → false ≡ isVote round hash t
-    unfolding isVote
+    pub is-vote-other : (get_or t 1 0 ≡ round → ⊥) → false ≡ is_vote round hash t
+    unfolding is_vote
     is-vote-other r = rw (ne_eqb _ _ u, ne_eqb _ _ r)
 
 module _ (round used of : ℕ) where
-  pub of-free : used ≡ 0 → false ≡ roundWith used of round
+  pub of-free : used ≡ 0 → false ≡ round_with used of round
   of-free h = rw (eq-eqb _ _ h)
 
-  pub of-used : (used ≡ 0 → ⊥) → eqb of round ≡ roundWith used of round
+  pub of-used : (used ≡ 0 → ⊥) → eqb of round ≡ round_with used of round
   of-used h = rw (ne_eqb _ _ h)
 
 module _ (used weight total : ℕ) where
-  pub heavy-over : total < weight → not (eqb used 0) ≡ heavyWith used weight total
+  pub heavy-over : total < weight → not (eqb used 0) ≡ heavy_with used weight total
   heavy-over h = rw (lt-ltb _ _ h) (by-mark (eqb used 0))
     where
       by-mark : (e : Bool) → not e ≡ cond e false true
       by-mark true = refl
       by-mark false = refl
 
-  pub heavy-under : weight ≤ total → false ≡ heavyWith used weight total
+  pub heavy-under : weight ≤ total → false ≡ heavy_with used weight total
   heavy-under h = rw (le-ltb _ _ h) (by-mark (eqb used 0))
     where
       by-mark : (e : Bool) → false ≡ cond e false false
@@ -80,8 +80,8 @@ module _ (round : ℕ) (t : List ℕ) where
   unfolding kept
   keep-free h = rw (eq-eqb _ _ h)
 
-pub timeout-opened : (round : ℕ) (t : List ℕ) {t' : List ℕ} → t' ≡ zeros (length t) → length t ≡ timeoutWidth → set (set t' 0 1) 1 round ≡ newTimeout round
-unfolding newTimeout
+pub timeout-opened : (round : ℕ) (t : List ℕ) {t' : List ℕ} → t' ≡ zeros (length t) → length t ≡ timeout_width → set (set t' 0 1) 1 round ≡ new_timeout round
+unfolding new_timeout
 timeout-opened round t e l = rw (e, l)
 
 module _ (i : ℕ) (t : List ℕ) (p stake need : ℕ) where
@@ -93,7 +93,7 @@ module _ (i : ℕ) (t : List ℕ) (p stake need : ℕ) where
     pub append-more : get_or t 2 0 + stake < need
         → AddedAs (answer_of i t p stake need) (counted no_high t p stake need) More
         (set (set t 3 (bit_or (get_or t 3 0) (1 * 2 ^ p % 2 ^ 64))) 2 (get_or t 2 0 + stake))
-    unfolding answer_of counted withAuthor no_high
+    unfolding answer_of counted with_author no_high
     append-more m =
         record {
           answer = rw (ne_eqb _ _ new, lt-ltb _ _ m);
@@ -103,7 +103,7 @@ module _ (i : ℕ) (t : List ℕ) (p stake need : ℕ) where
     pub append-full : need ≤ get_or t 2 0 + stake
         → AddedAs (answer_of i t p stake need) (counted no_high t p stake need) (Full i (signers (bit_or (get_or t 3 0) (1 * 2 ^ p % 2 ^ 64))))
         (set (set t 3 (bit_or (get_or t 3 0) (1 * 2 ^ p % 2 ^ 64))) 2 0)
-    unfolding answer_of counted withAuthor no_high
+    unfolding answer_of counted with_author no_high
     append-full m =
         record {
           answer = rw (one_shl p h, ne_eqb _ _ new, le-ltb _ _ m);
@@ -133,32 +133,32 @@ module _ (i : ℕ) (t : List ℕ) (p stake need : ℕ) where
   -- there is room in a tally
   pub answer-some : answer_of i t p stake need ≡ NoRoom → ⊥
   unfolding answer_of
-  answer-some e = no-room-never (hasName (names_of t) p) (ltb (weightOf t + stake) need) i _ e
+  answer-some e = no-room-never (has_name (names_of t) p) (ltb (weight_of t + stake) need) i _ e
 
   -- and the row of a quorum is its row
   pub answer-row : {j : ℕ} {s : Signers} → answer_of i t p stake need ≡ Full j s → i ≡ j
   unfolding answer_of
-  answer-row {j} {s} e = full-row (hasName (names_of t) p) (ltb (weightOf t + stake) need) i j _ s e
+  answer-row {j} {s} e = full-row (has_name (names_of t) p) (ltb (weight_of t + stake) need) i j _ s e
 
   -- who is refused was counted already
-  pub used-has : Used ≡ answer_of i t p stake need → hasName (names_of t) p ≡ true
+  pub used-has : Used ≡ answer_of i t p stake need → has_name (names_of t) p ≡ true
   unfolding answer_of
-  used-has e = name-used (hasName (names_of t) p) (ltb (weightOf t + stake) need) _ e (λ q. let z : ◌≡◌ {A = ℕ} 0 1 = cc in omega arith)
+  used-has e = name-used (has_name (names_of t) p) (ltb (weight_of t + stake) need) _ e (λ q. let z : ◌≡◌ {A = ℕ} 0 1 = cc in omega arith)
 
   -- and who is not was not
-  pub new-has : {r : Added} → r ≡ answer_of i t p stake need → (r ≡ Used → ⊥) → hasName (names_of t) p ≡ false
+  pub new-has : {r : Added} → r ≡ answer_of i t p stake need → (r ≡ Used → ⊥) → has_name (names_of t) p ≡ false
   unfolding answer_of
-  new-has e h = name_new (hasName (names_of t) p) (ltb (weightOf t + stake) need) _ e h
+  new-has e h = name_new (has_name (names_of t) p) (ltb (weight_of t + stake) need) _ e h
 
   module _ (high : ℕ) {r : Added} {t' : List ℕ} (c : AddedAs (answer_of i t p stake need) (counted no_high t p stake need) r t') where
-    pub high_used : r ≡ Used → AddedAs (answer_of i t p stake need) (counted (withHigh p high) t p stake need) r t'
+    pub high_used : r ≡ Used → AddedAs (answer_of i t p stake need) (counted (with_high p high) t p stake need) r t'
     unfolding counted
     high_used q =
         let e = used-has (sym q ∙ c.answer) in
         record { answer = c.answer; table = rw e at c.table ∙ rw e }
 
-    pub high-new : (r ≡ Used → ⊥) → AddedAs (answer_of i t p stake need) (counted (withHigh p high) t p stake need) r (set t' (p + 4) high)
-    unfolding counted withAuthor no_high withHigh
+    pub high-new : (r ≡ Used → ⊥) → AddedAs (answer_of i t p stake need) (counted (with_high p high) t p stake need) r (set t' (p + 4) high)
+    unfolding counted with_author no_high with_high
     high-new q =
         let e = new-has c.answer q in
         let f : p + 4 ≡ 4 + p = omega arith in
@@ -173,18 +173,18 @@ kept-two true d t = refl
 
 pub kept-length : (round : ℕ) (t : List ℕ) → length (kept round t) ≡ length t
 unfolding kept
-kept-length round t = kept-two (isFree t) (ltb (roundOf t) round) t
+kept-length round t = kept-two (is_free t) (ltb (round_of t) round) t
 
-kept_same : (b d : Bool) (round of : ℕ) (t : List ℕ) → d ≡ ltb of round → b ≡ isFree t → (usedOf (cond b t (cond d (zeros (length t)) t)) ≡ 0 → ⊥)
+kept_same : (b d : Bool) (round of : ℕ) (t : List ℕ) → d ≡ ltb of round → b ≡ is_free t → (used_of (cond b t (cond d (zeros (length t)) t)) ≡ 0 → ⊥)
     → (cond b t (cond d (zeros (length t)) t) ≡ t) × (round ≤ of)
 kept_same true d round of t e f u = absurd (u (eqb-true _ _ (sym f)))
 kept_same false true round of t e f u = absurd (u (zeros-at (length t) 0))
 kept_same false false round of t e f u = (refl, ltb-false _ _ (sym e))
 
 -- a tally that is still in use is as it was, and not below the round
-pub kept-used : (round : ℕ) (t : List ℕ) → (usedOf (kept round t) ≡ 0 → ⊥) → (kept round t ≡ t) × (round ≤ roundOf t)
+pub kept-used : (round : ℕ) (t : List ℕ) → (used_of (kept round t) ≡ 0 → ⊥) → (kept round t ≡ t) × (round ≤ round_of t)
 unfolding kept
-kept-used round t u = kept_same (isFree t) (ltb (roundOf t) round) round (roundOf t) t refl refl u
+kept-used round t u = kept_same (is_free t) (ltb (round_of t) round) round (round_of t) t refl refl u
 
 -- ---- what a test that held says
 
@@ -194,14 +194,14 @@ past-free false x e = e
 
 -- ---- names
 
-pub name-none : (p : ℕ) → hasName 0 p ≡ true → ⊥
+pub name-none : (p : ℕ) → has_name 0 p ≡ true → ⊥
 name-none p e = let z : 0 / 2 ^ p % 2 ≡ 1 = eqb-true _ _ e in let q : 0 / 2 ^ p ≡ 0 = zero-div (2 ^ p) in omega arith
 
-pub name-with : (names p : ℕ) → hasName (withName names p) p ≡ true
+pub name-with : (names p : ℕ) → has_name (with_name names p) p ≡ true
 name-with names p =
     let one : 2 ^ p / 2 ^ p ≡ 1 = div_self (pow_pos p) in
-    let e : withName names p / 2 ^ p ≡ bit_or (names / 2 ^ p) 1 = rw (or_shr names (2 ^ p) p, one) in
-    let odd : withName names p / 2 ^ p % 2 ≡ 1 = rw (e, or_step (names / 2 ^ p) 1) (omega arith) in
+    let e : with_name names p / 2 ^ p ≡ bit_or (names / 2 ^ p) 1 = rw (or_shr names (2 ^ p) p, one) in
+    let odd : with_name names p / 2 ^ p % 2 ≡ 1 = rw (e, or_step (names / 2 ^ p) 1) (omega arith) in
     eq-eqb _ _ odd
 
 -- ---- a tally with one more author
@@ -226,40 +226,40 @@ vote-mark : Mark no_high
 unfolding no_high
 vote-mark = record { size = λ t. refl; fixed = λ t k h. refl }
 
-timeout-mark : (p high : ℕ) → Mark (withHigh p high)
-unfolding withHigh
+timeout-mark : (p high : ℕ) → Mark (with_high p high)
+unfolding with_high
 timeout-mark p high = record { size = λ t. length-set t (fields + p) high; fixed = λ t k h. get_or-set_other t (fields + p) k high 0 (λ e. omega arith) }
 
 module _ {mark : List ℕ → List ℕ} (m : Mark mark) (t : List ℕ) (p stake need : ℕ) where
-  pub author-length : length (withAuthor mark t p stake need) ≡ length t
-  unfolding withAuthor
+  pub author-length : length (with_author mark t p stake need) ≡ length t
+  unfolding with_author
   author-length = rw (m.size, length-set, length-set)
 
   -- the used mark and the round stay
-  pub author-used : usedOf (withAuthor mark t p stake need) ≡ usedOf t
-  unfolding withAuthor
+  pub author-used : used_of (with_author mark t p stake need) ≡ used_of t
+  unfolding with_author
   author-used = m.fixed _ 0 (omega arith) ∙ set-others t _ _ 0 (λ e. omega arith) (λ e. omega arith)
 
-  pub author-round : roundOf (withAuthor mark t p stake need) ≡ roundOf t
-  unfolding withAuthor
+  pub author-round : round_of (with_author mark t p stake need) ≡ round_of t
+  unfolding with_author
   author-round = m.fixed _ 1 (omega arith) ∙ set-others t _ _ 1 (λ e. omega arith) (λ e. omega arith)
 
   module _ (h : fields ≤ length t) where
     -- its name is among the names
-    pub author-names : names_of (withAuthor mark t p stake need) ≡ withName (names_of t) p
-    unfolding withAuthor
+    pub author-names : names_of (with_author mark t p stake need) ≡ with_name (names_of t) p
+    unfolding with_author
     author-names = m.fixed _ 3 (omega arith) ∙ set-names t _ _ h
 
     -- its stake is in the weight, which is 0 at the quorum
-    pub author-weight : weightOf (withAuthor mark t p stake need) ≡ cond (ltb (weightOf t + stake) need) (weightOf t + stake) 0
-    unfolding withAuthor
+    pub author-weight : weight_of (with_author mark t p stake need) ≡ cond (ltb (weight_of t + stake) need) (weight_of t + stake) 0
+    unfolding with_author
     author-weight = m.fixed _ 2 (omega arith) ∙ set-weight t _ _ h
 
 -- the hash of a vote tally stays
-pub author-hash : (t : List ℕ) (p stake need : ℕ) → hashOf (withAuthor no_high t p stake need) ≡ hashOf t
-unfolding withAuthor no_high
+pub author-hash : (t : List ℕ) (p stake need : ℕ) → hash_of (with_author no_high t p stake need) ≡ hash_of t
+unfolding with_author no_high
 author-hash t p stake need =
-    let other : (k : ℕ) → 4 ≤ k → get_or (withAuthor no_high t p stake need) k 0 ≡ get_or t k 0 = λ k h. set-others t _ _ k (λ e. omega arith) (λ e. omega arith) in
+    let other : (k : ℕ) → 4 ≤ k → get_or (with_author no_high t p stake need) k 0 ≡ get_or t k 0 = λ k h. set-others t _ _ k (λ e. omega arith) (λ e. omega arith) in
     rw (other 4 (omega arith), other 5 (omega arith), other 6 (omega arith), other 7 (omega arith))
 
 module _ (t : List ℕ) (names weight p high : ℕ) where
@@ -271,13 +271,13 @@ module _ (t : List ℕ) (names weight p high : ℕ) where
 
 module _ (t : List ℕ) (p stake need high : ℕ) where
   -- the high round of the author is in a timeout tally
-  pub author-high : fields + p < length t → get_or (withAuthor (withHigh p high) t p stake need) (fields + p) 0 ≡ high
-  unfolding withAuthor withHigh
+  pub author-high : fields + p < length t → get_or (with_author (with_high p high) t p stake need) (fields + p) 0 ≡ high
+  unfolding with_author with_high
   author-high h = set-high t _ _ p high h
 
   -- and the others are as they were
-  pub author-highs : (q : ℕ) → (q ≡ p → ⊥) → get_or (withAuthor (withHigh p high) t p stake need) (fields + q) 0 ≡ get_or t (fields + q) 0
-  unfolding withAuthor withHigh
+  pub author-highs : (q : ℕ) → (q ≡ p → ⊥) → get_or (with_author (with_high p high) t p stake need) (fields + q) 0 ≡ get_or t (fields + q) 0
+  unfolding with_author with_high
   author-highs q h = set-highs t _ _ p high q h
 
 -- ---- the two kinds of tally
@@ -285,66 +285,66 @@ module _ (t : List ℕ) (p stake need high : ℕ) where
 -- A test holds of tallies in use only, of a new one, and as before once an author is counted. A new tally is w wide, weighs nothing and has no names.
 pub record Kind (test : List ℕ → Bool) (new : List ℕ) (mark : List ℕ → List ℕ) (w : ℕ) : Type 0 where
   pub wide : fields ≤ w
-  pub used : (t : List ℕ) → test t ≡ true → usedOf t ≡ 0 → ⊥
+  pub used : (t : List ℕ) → test t ≡ true → used_of t ≡ 0 → ⊥
   pub passes : test new ≡ true
   pub size : length new ≡ w
-  pub weight : weightOf new ≡ 0
+  pub weight : weight_of new ≡ 0
   pub names : names_of new ≡ 0
   pub marks : Mark mark
-  pub stays : (t : List ℕ) (p stake need : ℕ) → test (withAuthor mark t p stake need) ≡ test t
+  pub stays : (t : List ℕ) (p stake need : ℕ) → test (with_author mark t p stake need) ≡ test t
 
 free-false : (b x : Bool) → cond b false x ≡ true → b ≡ false
 free-false true x e = absurd (let z : ◌≡◌ {A = ℕ} 0 1 = cc in omega arith)
 free-false false x e = refl
 
-same-vote : (round : ℕ) (hash : Hash) (t u : List ℕ) → usedOf u ≡ usedOf t → roundOf u ≡ roundOf t → hashOf u ≡ hashOf t → isVote round hash u ≡ isVote round hash t
-unfolding isVote
-same-vote round hash t u a b e = rw (a, b) (ap (λ (h : Hash). cond (isFree t) false (cond (eqb (roundOf t) round) (sameHash h hash) false)) e)
+same-vote : (round : ℕ) (hash : Hash) (t u : List ℕ) → used_of u ≡ used_of t → round_of u ≡ round_of t → hash_of u ≡ hash_of t → is_vote round hash u ≡ is_vote round hash t
+unfolding is_vote
+same-vote round hash t u a b e = rw (a, b) (ap (λ (h : Hash). cond (is_free t) false (cond (eqb (round_of t) round) (same_hash h hash) false)) e)
 
-same-round : (round : ℕ) (t u : List ℕ) → usedOf u ≡ usedOf t → roundOf u ≡ roundOf t → ofRound round u ≡ ofRound round t
-unfolding ofRound
+same-round : (round : ℕ) (t u : List ℕ) → used_of u ≡ used_of t → round_of u ≡ round_of t → of_round round u ≡ of_round round t
+unfolding of_round
 same-round round t u a b = rw (a, b)
 
-pub vote-kind : (round : ℕ) (hash : Hash) → Kind (isVote round hash) (newVote round hash) no_high voteWidth
-unfolding isVote newVote
+pub vote-kind : (round : ℕ) (hash : Hash) → Kind (is_vote round hash) (new_vote round hash) no_high vote_width
+unfolding is_vote new_vote
 vote-kind round hash =
     record {
       wide = omega arith;
-      used = λ t e. eqb-false _ _ (free-false (isFree t) _ e);
+      used = λ t e. eqb-false _ _ (free-false (is_free t) _ e);
       passes = rw (eq-eqb round round refl, eq-eqb hash.a hash.a refl, eq-eqb hash.b hash.b refl, eq-eqb hash.c hash.c refl, eq-eqb hash.d hash.d refl);
       size = refl;
       weight = refl;
       names = refl;
       marks = vote-mark;
       stays = λ t p stake need.
-          same-vote round hash t (withAuthor no_high t p stake need) (author-used vote-mark t p stake need) (author-round vote-mark t p stake need) (author-hash t p stake need);
+          same-vote round hash t (with_author no_high t p stake need) (author-used vote-mark t p stake need) (author-round vote-mark t p stake need) (author-hash t p stake need);
     }
 
-pub timeout-kind : (round p high : ℕ) → Kind (ofRound round) (newTimeout round) (withHigh p high) timeoutWidth
-unfolding ofRound newTimeout
+pub timeout-kind : (round p high : ℕ) → Kind (of_round round) (new_timeout round) (with_high p high) timeout_width
+unfolding of_round new_timeout
 timeout-kind round p high =
     record {
       wide = omega arith;
-      used = λ t e. eqb-false _ _ (free-false (isFree t) _ e);
+      used = λ t e. eqb-false _ _ (free-false (is_free t) _ e);
       passes = eq-eqb round round refl;
       size = refl;
       weight = refl;
       names = refl;
       marks = timeout-mark p high;
       stays = λ t q stake need.
-          same-round round t (withAuthor (withHigh p high) t q stake need) (author-used (timeout-mark p high) t q stake need) (author-round (timeout-mark p high) t q stake need);
+          same-round round t (with_author (with_high p high) t q stake need) (author-used (timeout-mark p high) t q stake need) (author-round (timeout-mark p high) t q stake need);
     }
 
 -- ---- what a test says of a tally
 
 -- a vote tally that is found is of that round and hash
-pub vote-is : (round : ℕ) (hash : Hash) (t : List ℕ) → isVote round hash t ≡ true → (roundOf t ≡ round) × (hashOf t ≡ hash)
-unfolding isVote
+pub vote-is : (round : ℕ) (hash : Hash) (t : List ℕ) → is_vote round hash t ≡ true → (round_of t ≡ round) × (hash_of t ≡ hash)
+unfolding is_vote
 vote-is round hash t e =
-    let a = both (eqb (roundOf t) round) _ (past-free (isFree t) _ e) in
+    let a = both (eqb (round_of t) round) _ (past-free (is_free t) _ e) in
     (eqb-true _ _ a.0, hash-same _ _ a.1)
 
 -- and a timeout tally of that round
-pub timeout-is : (round : ℕ) (t : List ℕ) → ofRound round t ≡ true → roundOf t ≡ round
-unfolding ofRound
-timeout-is round t e = eqb-true _ _ (past-free (isFree t) _ e)
+pub timeout-is : (round : ℕ) (t : List ℕ) → of_round round t ≡ true → round_of t ≡ round
+unfolding of_round
+timeout-is round t e = eqb-true _ _ (past-free (is_free t) _ e)

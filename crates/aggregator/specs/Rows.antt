@@ -3,7 +3,7 @@
 --     row w v i            row i; what there is of it where the list ends before
 --     with_row w v i r      the table with the numbers of r in the place of row i
 --     lowest p w v n i     the lowest of the n rows from row i on that passes the test p; Nothing if none does
---     mapRows f w n v      the table with f applied to each of the first n rows
+--     map_rows f w n v      the table with f applied to each of the first n rows
 --     FoundAs f n r        r is what was to be found, f, and if that is a row it is one of the first n
 use Rattle.std.specs.Prelude.{ℕ, zero, suc, ◌*◌, ◌<◌, Bool, cond, List, ◌++◌, ◌≡◌, take, drop, replicate}
 use Rattle.aggregator.specs.declared.tallies.Found.{Found}
@@ -22,9 +22,9 @@ abbrev pub lowest : (List ℕ → Bool) → ℕ → List ℕ → ℕ → ℕ →
 lowest p w v zero i = Nothing
 lowest p w v (suc n) i = cond (p (row w v i)) (At i) (lowest p w v n (suc i))
 
-abbrev pub mapRows : (List ℕ → List ℕ) → ℕ → ℕ → List ℕ → List ℕ
-mapRows f w zero v = v
-mapRows f w (suc n) v = f (take w v) ++ mapRows f w n (drop w v)
+abbrev pub map_rows : (List ℕ → List ℕ) → ℕ → ℕ → List ℕ → List ℕ
+map_rows f w zero v = v
+map_rows f w (suc n) v = f (take w v) ++ map_rows f w n (drop w v)
 
 pub record FoundAs (f : Found) (n : ℕ) (r : Found) : Type 0 where
   pub is : r ≡ f

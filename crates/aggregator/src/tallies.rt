@@ -9,8 +9,8 @@
 // What else lies in a tally that is not in use is not looked at. Bit p of `names` is for place p.
 ghost use Rattle.std.specs.Prelude.{not, ◌≡◌, ◌+◌, ◌*◌, ◌≤◌, ◌<◌, ◌^◌, length};
 ghost use Rattle.aggregator.specs.Rows.{row, with_row, FoundAs, zeros};
-ghost use Rattle.aggregator.specs.Tally.{fields, places, voteWidth, timeoutWidth, weightOf, isVote, ofRound, newVote, newTimeout, no_high, withHigh, answer_of, counted, AddedAs};
-ghost use Rattle.aggregator.specs.Tallies.{voteTallies, timeoutTallies, votesLength, timeoutsLength, findRow, findFree, anyHeavy, joined, dropped, TallyFor, Countable, voteAdded, votesAfter, timeoutAdded, timeoutsAfter, HighsAs};
+ghost use Rattle.aggregator.specs.Tally.{fields, places, vote_width, timeout_width, weight_of, is_vote, of_round, new_vote, new_timeout, no_high, with_high, answer_of, counted, AddedAs};
+ghost use Rattle.aggregator.specs.Tallies.{vote_tallies, timeout_tallies, votes_length, timeouts_length, find_row, find_free, any_heavy, joined, dropped, TallyFor, Countable, vote_added, votes_after, timeout_added, timeouts_after, HighsAs};
 
 use crate::tally::{
     HIGHS, PLACES, ROUND, WEIGHT, append, append_high, is_heavy, is_of, is_vote, keep,
@@ -27,14 +27,14 @@ pub const TIMEOUT_TALLIES: usize = 16;
 pub const TIMEOUT_WIDTH: usize = 68;
 
 // Where a search ends: at the lowest row that it looks for, or without one.
-#[derive(Drop)]
+#[derive(Clone, Copy)]
 pub enum Found {
     At(usize),
     Nothing,
 }
 
 // What became of a vote or a timeout.
-#[derive(Drop)]
+#[derive(Clone, Copy)]
 pub enum Added {
     // There is no tally for it, and all are held.
     NoRoom,
@@ -50,8 +50,8 @@ pub enum Added {
 
 // The lowest vote tally that is in use for the round and the hash.
 fn find_vote(votes: &[u64], round: Round, hash: Hash) -> Found
-    requires { length votes.now ≡ votesLength }
-    ensures { FoundAs (findRow (isVote round.0 hash) voteWidth voteTallies votes.now) voteTallies result }
+    requires { length votes.now ≡ votes_length }
+    ensures { FoundAs (find_row (is_vote round.0 hash) vote_width vote_tallies votes.now) vote_tallies result }
 {
     let mut i: usize = 0;
     while i < VOTE_TALLIES {
@@ -67,8 +67,8 @@ fn find_vote(votes: &[u64], round: Round, hash: Hash) -> Found
 
 // The lowest timeout tally that is in use for the round.
 fn find_timeout(timeouts: &[u64], round: Round) -> Found
-    requires { length timeouts.now ≡ timeoutsLength }
-    ensures { FoundAs (findRow (ofRound round.0) timeoutWidth timeoutTallies timeouts.now) timeoutTallies result }
+    requires { length timeouts.now ≡ timeouts_length }
+    ensures { FoundAs (find_row (of_round round.0) timeout_width timeout_tallies timeouts.now) timeout_tallies result }
 {
     let mut i: usize = 0;
     while i < TIMEOUT_TALLIES {
@@ -84,7 +84,7 @@ fn find_timeout(timeouts: &[u64], round: Round) -> Found
 // The lowest of n tallies, each w wide, that is not in use.
 fn find_free(v: &[u64], w: usize, n: usize) -> Found
     requires { (fields ≤ w) × (n * w ≤ length v.now) }
-    ensures { FoundAs (findFree w n v.now) n result }
+    ensures { FoundAs (find_free w n v.now) n result }
 {
     let mut i: usize = 0;
     while i < n {
@@ -98,8 +98,8 @@ fn find_free(v: &[u64], w: usize, n: usize) -> Found
 }
 
 fn open_vote_at(votes: &mut [u64], i: usize, round: Round, hash: Hash)
-    requires { (length votes.old ≡ votesLength) × (i < voteTallies) }
-    ensures { votes.new ≡ with_row voteWidth votes.old i (newVote round.0 hash) }
+    requires { (length votes.old ≡ votes_length) × (i < vote_tallies) }
+    ensures { votes.new ≡ with_row vote_width votes.old i (new_vote round.0 hash) }
 {
     let from = i * VOTE_WIDTH;
     let to = from + VOTE_WIDTH;
@@ -107,8 +107,8 @@ fn open_vote_at(votes: &mut [u64], i: usize, round: Round, hash: Hash)
 }
 
 fn open_timeout_at(timeouts: &mut [u64], i: usize, round: Round)
-    requires { (length timeouts.old ≡ timeoutsLength) × (i < timeoutTallies) }
-    ensures { timeouts.new ≡ with_row timeoutWidth timeouts.old i (newTimeout round.0) }
+    requires { (length timeouts.old ≡ timeouts_length) × (i < timeout_tallies) }
+    ensures { timeouts.new ≡ with_row timeout_width timeouts.old i (new_timeout round.0) }
 {
     let from = i * TIMEOUT_WIDTH;
     let to = from + TIMEOUT_WIDTH;
@@ -116,8 +116,8 @@ fn open_timeout_at(timeouts: &mut [u64], i: usize, round: Round)
 }
 
 fn append_at(votes: &mut [u64], i: usize, place: Place, stake: Stake, need: Stake) -> Added
-    requires { (length votes.old ≡ votesLength) × (i < voteTallies) × (place.0 < places) × (weightOf (row voteWidth votes.old i) + stake.0 < 2 ^ 64) }
-    ensures { AddedAs (answer_of i (row voteWidth votes.old i) place.0 stake.0 need.0) (with_row voteWidth votes.old i (counted no_high (row voteWidth votes.old i) place.0 stake.0 need.0)) result votes.new }
+    requires { (length votes.old ≡ votes_length) × (i < vote_tallies) × (place.0 < places) × (weight_of (row vote_width votes.old i) + stake.0 < 2 ^ 64) }
+    ensures { AddedAs (answer_of i (row vote_width votes.old i) place.0 stake.0 need.0) (with_row vote_width votes.old i (counted no_high (row vote_width votes.old i) place.0 stake.0 need.0)) result votes.new }
 {
     let from = i * VOTE_WIDTH;
     let to = from + VOTE_WIDTH;
@@ -132,8 +132,8 @@ fn append_high_at(
     need: Stake,
     high: Round,
 ) -> Added
-    requires { (length timeouts.old ≡ timeoutsLength) × (i < timeoutTallies) × (place.0 < places) × (weightOf (row timeoutWidth timeouts.old i) + stake.0 < 2 ^ 64) }
-    ensures { AddedAs (answer_of i (row timeoutWidth timeouts.old i) place.0 stake.0 need.0) (with_row timeoutWidth timeouts.old i (counted (withHigh place.0 high.0) (row timeoutWidth timeouts.old i) place.0 stake.0 need.0)) result timeouts.new }
+    requires { (length timeouts.old ≡ timeouts_length) × (i < timeout_tallies) × (place.0 < places) × (weight_of (row timeout_width timeouts.old i) + stake.0 < 2 ^ 64) }
+    ensures { AddedAs (answer_of i (row timeout_width timeouts.old i) place.0 stake.0 need.0) (with_row timeout_width timeouts.old i (counted (with_high place.0 high.0) (row timeout_width timeouts.old i) place.0 stake.0 need.0)) result timeouts.new }
 {
     let from = i * TIMEOUT_WIDTH;
     let to = from + TIMEOUT_WIDTH;
@@ -145,8 +145,8 @@ fn append_high_at(
 // The row of the tally for the round and the hash, which is opened where there is none yet and
 // there is room.
 fn vote_tally(votes: &mut [u64], round: Round, hash: Hash) -> Found
-    requires { length votes.old ≡ votesLength }
-    ensures { TallyFor (isVote round.0 hash) (newVote round.0 hash) voteWidth voteTallies votes.old result votes.new }
+    requires { length votes.old ≡ votes_length }
+    ensures { TallyFor (is_vote round.0 hash) (new_vote round.0 hash) vote_width vote_tallies votes.old result votes.new }
 {
     match find_vote(votes, round, hash) {
         Found::At(i) => Found::At(i),
@@ -170,8 +170,8 @@ pub fn add_vote(
     stake: Stake,
     need: Stake,
 ) -> Added
-    requires { Countable voteWidth voteTallies votes.old place.0 stake.0 }
-    ensures { AddedAs (voteAdded votes.old round.0 hash place.0 stake.0 need.0) (votesAfter votes.old round.0 hash place.0 stake.0 need.0) result votes.new }
+    requires { Countable vote_width vote_tallies votes.old place.0 stake.0 }
+    ensures { AddedAs (vote_added votes.old round.0 hash place.0 stake.0 need.0) (votes_after votes.old round.0 hash place.0 stake.0 need.0) result votes.new }
 {
     match vote_tally(votes, round, hash) {
         Found::At(i) => append_at(votes, i, place, stake, need),
@@ -183,8 +183,8 @@ pub fn add_vote(
 
 // The row of the tally for the round, as `vote_tally`.
 fn timeout_tally(timeouts: &mut [u64], round: Round) -> Found
-    requires { length timeouts.old ≡ timeoutsLength }
-    ensures { TallyFor (ofRound round.0) (newTimeout round.0) timeoutWidth timeoutTallies timeouts.old result timeouts.new }
+    requires { length timeouts.old ≡ timeouts_length }
+    ensures { TallyFor (of_round round.0) (new_timeout round.0) timeout_width timeout_tallies timeouts.old result timeouts.new }
 {
     match find_timeout(timeouts, round) {
         Found::At(i) => Found::At(i),
@@ -208,8 +208,8 @@ pub fn add_timeout(
     need: Stake,
     high: Round,
 ) -> Added
-    requires { Countable timeoutWidth timeoutTallies timeouts.old place.0 stake.0 }
-    ensures { AddedAs (timeoutAdded timeouts.old round.0 place.0 stake.0 need.0) (timeoutsAfter timeouts.old round.0 place.0 stake.0 need.0 high.0) result timeouts.new }
+    requires { Countable timeout_width timeout_tallies timeouts.old place.0 stake.0 }
+    ensures { AddedAs (timeout_added timeouts.old round.0 place.0 stake.0 need.0) (timeouts_after timeouts.old round.0 place.0 stake.0 need.0 high.0) result timeouts.new }
 {
     match timeout_tally(timeouts, round) {
         Found::At(i) => append_high_at(timeouts, i, place, stake, need, high),
@@ -219,7 +219,7 @@ pub fn add_timeout(
 
 // The high rounds of the tally in row i, by place.
 pub fn highs_at(timeouts: &[u64], i: usize) -> &[u64]
-    requires { (length timeouts.now ≡ timeoutsLength) × (i < timeoutTallies) }
+    requires { (length timeouts.now ≡ timeouts_length) × (i < timeout_tallies) }
     ensures { HighsAs timeouts.now i result.now }
 {
     let from = i * TIMEOUT_WIDTH + HIGHS;
@@ -244,15 +244,15 @@ pub fn cleanup(v: &mut [u64], w: usize, n: usize, round: Round)
 }
 
 pub fn cleanup_votes(votes: &mut [u64], round: Round)
-    requires { length votes.old ≡ votesLength }
-    ensures { votes.new ≡ dropped voteWidth voteTallies votes.old round.0 }
+    requires { length votes.old ≡ votes_length }
+    ensures { votes.new ≡ dropped vote_width vote_tallies votes.old round.0 }
 {
     cleanup(votes, VOTE_WIDTH, VOTE_TALLIES, round);
 }
 
 pub fn cleanup_timeouts(timeouts: &mut [u64], round: Round)
-    requires { length timeouts.old ≡ timeoutsLength }
-    ensures { timeouts.new ≡ dropped timeoutWidth timeoutTallies timeouts.old round.0 }
+    requires { length timeouts.old ≡ timeouts_length }
+    ensures { timeouts.new ≡ dropped timeout_width timeout_tallies timeouts.old round.0 }
 {
     cleanup(timeouts, TIMEOUT_WIDTH, TIMEOUT_TALLIES, round);
 }
@@ -273,8 +273,8 @@ fn weights_of(v: &[u64], w: usize, n: usize) -> u64
 
 // Whether some tally in use is heavier than the total. One loop looks at both tables.
 fn any_heavy(votes: &[u64], timeouts: &[u64], total: Stake) -> bool
-    requires { (length votes.now ≡ votesLength) × (length timeouts.now ≡ timeoutsLength) }
-    ensures { result ≡ anyHeavy votes.now timeouts.now total.0 }
+    requires { (length votes.now ≡ votes_length) × (length timeouts.now ≡ timeouts_length) }
+    ensures { result ≡ any_heavy votes.now timeouts.now total.0 }
 {
     let mut i: usize = 0;
     while i < VOTE_TALLIES {
@@ -294,8 +294,8 @@ fn any_heavy(votes: &[u64], timeouts: &[u64], total: Stake) -> bool
 // Whether no tally in use is heavier than the total. Where the bits of all weights together are no
 // more than the total, none is, and no tally is looked at by itself.
 pub fn are_light(votes: &[u64], timeouts: &[u64], total: Stake) -> bool
-    requires { (length votes.now ≡ votesLength) × (length timeouts.now ≡ timeoutsLength) }
-    ensures { result ≡ not (anyHeavy votes.now timeouts.now total.0) }
+    requires { (length votes.now ≡ votes_length) × (length timeouts.now ≡ timeouts_length) }
+    ensures { result ≡ not (any_heavy votes.now timeouts.now total.0) }
 {
     let of_votes = weights_of(votes, VOTE_WIDTH, VOTE_TALLIES);
     let of_timeouts = weights_of(timeouts, TIMEOUT_WIDTH, TIMEOUT_TALLIES);

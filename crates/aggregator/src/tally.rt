@@ -3,7 +3,7 @@
 // The first four numbers are the same in a vote tally and in a timeout tally, and so is what is
 // done to them.
 ghost use Rattle.std.specs.Prelude.{◌≡◌, ◌+◌, ◌≤◌, ◌<◌, ◌^◌, length, get_or};
-ghost use Rattle.aggregator.specs.Tally.{fields, places, voteWidth, timeoutWidth, weightOf, isVote, roundWith, heavyWith, kept, newVote, newTimeout, no_high, withHigh, answer_of, counted, AddedAs};
+ghost use Rattle.aggregator.specs.Tally.{fields, places, vote_width, timeout_width, weight_of, is_vote, round_with, heavy_with, kept, new_vote, new_timeout, no_high, with_high, answer_of, counted, AddedAs};
 
 use crate::tallies::{Added, clear};
 use certificates::config::MEMBERS_MAX;
@@ -34,8 +34,8 @@ pub(crate) const PLACES: usize = MEMBERS_MAX;
 
 // Whether a vote tally is in use for the round and the hash.
 pub(crate) fn is_vote(t: &[u64], round: Round, hash: Hash) -> bool
-    requires { length t.now ≡ voteWidth }
-    ensures { result ≡ isVote round.0 hash t.now }
+    requires { length t.now ≡ vote_width }
+    ensures { result ≡ is_vote round.0 hash t.now }
 {
     if t[USED] == 0 {
         return false;
@@ -54,7 +54,7 @@ pub(crate) fn is_vote(t: &[u64], round: Round, hash: Hash) -> bool
 
 // Whether a tally with this used mark and round is in use for the round.
 pub(crate) fn is_of(used: u64, of: u64, round: Round) -> bool
-    ensures { result ≡ roundWith used of round.0 }
+    ensures { result ≡ round_with used of round.0 }
 {
     if used == 0 {
         return false;
@@ -66,7 +66,7 @@ pub(crate) fn is_of(used: u64, of: u64, round: Round) -> bool
 // the weight is looked at first.
 pub(crate) fn is_heavy(v: &[u64], from: usize, total: Stake) -> bool
     requires { from + fields ≤ length v.now }
-    ensures { result ≡ heavyWith (get_or v.now from 0) (get_or v.now (from + 2) 0) total.0 }
+    ensures { result ≡ heavy_with (get_or v.now from 0) (get_or v.now (from + 2) 0) total.0 }
 {
     if (total.0 as u64) < v[from + WEIGHT] {
         return v[from] != 0;
@@ -88,8 +88,8 @@ pub(crate) fn keep(t: &mut [u64], round: Round)
 
 // A tally for the round and the hash, with no vote yet.
 pub(crate) fn open_vote(t: &mut [u64], round: Round, hash: Hash)
-    requires { length t.old ≡ voteWidth }
-    ensures { t.new ≡ newVote round.0 hash }
+    requires { length t.old ≡ vote_width }
+    ensures { t.new ≡ new_vote round.0 hash }
 {
     t[USED] = 1;
     t[ROUND] = round.0;
@@ -103,8 +103,8 @@ pub(crate) fn open_vote(t: &mut [u64], round: Round, hash: Hash)
 
 // A tally for the round, with no timeout yet.
 pub(crate) fn open_timeout(t: &mut [u64], round: Round)
-    requires { length t.old ≡ timeoutWidth }
-    ensures { t.new ≡ newTimeout round.0 }
+    requires { length t.old ≡ timeout_width }
+    ensures { t.new ≡ new_timeout round.0 }
 {
     clear(t);
     t[USED] = 1;
@@ -114,7 +114,7 @@ pub(crate) fn open_timeout(t: &mut [u64], round: Round)
 // An author counted in the tally of row i. One that was counted already changes nothing. At the
 // quorum the weight becomes 0 and the names stay.
 pub(crate) fn append(t: &mut [u64], i: usize, place: Place, stake: Stake, need: Stake) -> Added
-    requires { (fields ≤ length t.old) × (place.0 < places) × (weightOf t.old + stake.0 < 2 ^ 64) }
+    requires { (fields ≤ length t.old) × (place.0 < places) × (weight_of t.old + stake.0 < 2 ^ 64) }
     ensures { AddedAs (answer_of i t.old place.0 stake.0 need.0) (counted no_high t.old place.0 stake.0 need.0) result t.new }
 {
     let names = t[NAMES];
@@ -142,8 +142,8 @@ pub(crate) fn append_high(
     need: Stake,
     high: Round,
 ) -> Added
-    requires { (length t.old ≡ timeoutWidth) × (place.0 < places) × (weightOf t.old + stake.0 < 2 ^ 64) }
-    ensures { AddedAs (answer_of i t.old place.0 stake.0 need.0) (counted (withHigh place.0 high.0) t.old place.0 stake.0 need.0) result t.new }
+    requires { (length t.old ≡ timeout_width) × (place.0 < places) × (weight_of t.old + stake.0 < 2 ^ 64) }
+    ensures { AddedAs (answer_of i t.old place.0 stake.0 need.0) (counted (with_high place.0 high.0) t.old place.0 stake.0 need.0) result t.new }
 {
     let at = (place.0 as usize) + HIGHS;
     let a = append(t, i, place, stake, need);

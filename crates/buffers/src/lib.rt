@@ -1,4 +1,6 @@
 // Bytes moved, copied, compared and summed.
+#![tactic(auto)]
+
 ghost use Rattle.std.specs.Prelude.{◌+◌, ◌-◌, ◌≤◌, ◌≡◌, length, take, drop};
 ghost use Rattle.std.proofs.Math.Seq.{paste};
 ghost use Rattle.buffers.specs.Buffers.{Alike, mixed, sum_of};

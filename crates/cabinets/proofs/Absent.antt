@@ -7,41 +7,41 @@ use mathlib.Core.List.{List}
 use mathlib.Core.Logic.{◌⊎◌, inl, inr, ⊎_elim}
 use mathlib.Core.Path.{◌≡◌, refl, sym, ap, ◌∙◌}
 use native.Mathlib.Omega.{arith}
-use Rattle.certificates.specs.Error.{ancestorAbsent, roundNotBelow}
-use Rattle.certificates.specs.Messages.{isGenesis}
+use Rattle.certificates.specs.Error.{ancestor_absent, round_not_below}
+use Rattle.certificates.specs.Messages.{is_genesis}
 use Rattle.synchronizer.specs.declared.table.Slot.{Slot}
 use Rattle.synchronizer.specs.declared.ancestors.Parent.{Parent}
-use Rattle.synchronizer.specs.Table.{stored, parent_of, ancestorsOf}
+use Rattle.synchronizer.specs.Table.{stored, parent_of, ancestors_of}
 use Rattle.synchronizer.specs.Walk.{refused, delivers, walk_of}
 use Rattle.synchronizer.proofs.Lookups.{Has, parent-has, parent-genesis, Closed, closed-stored, closed-ancestors, stays-found, ancestors-both, Line, line, stored-has, Stopped, no-b0, in-walk, Sure, walk-delivers}
-use Rattle.replica.specs.Blocks.{slotFor}
-use Rattle.runs.specs.Runs.{committedOf}
+use Rattle.replica.specs.Blocks.{slot_for}
+use Rattle.runs.specs.Runs.{committed_of}
 use Rattle.runs.specs.Courses.{Course}
 use Rattle.runs.specs.Passed.{Passed}
 use Rattle.runs.specs.Lives.{Party}
 use Rattle.runs.specs.Signed.{Members, Sits}
 use Rattle.runs.proofs.Quorums.{positive}
 use Rattle.runs.proofs.Answers.{stopped}
-use Rattle.runs.proofs.CourseLives.{worldAt, eventAt, result_at, blockIn, total, started-at, closed_at}
-use Rattle.runs.proofs.Parties.{partyOf, sitting, trusted}
-use Rattle.cabinets.specs.Contents.{Content, contentOf}
+use Rattle.runs.proofs.CourseLives.{world_at, event_at, result_at, block_in, total, started-at, closed_at}
+use Rattle.runs.proofs.Parties.{party_of, sitting, trusted}
+use Rattle.cabinets.specs.Contents.{Content, content_of}
 use Rattle.cabinets.specs.Rules.{Blocks, below, Backed, Rules, child-of}
 use Rattle.cabinets.specs.Ledgers.{Cabinets}
 use Rattle.cabinets.proofs.Chain.{sound}
 use Rattle.cabinets.proofs.Events as events
 use Rattle.cabinets.proofs.Events.{Trace, Offered}
-use Rattle.cabinets.proofs.CourseKeeps.{Loops, traceOf}
-use Rattle.cabinets.proofs.Digests.{blocksOf, given}
+use Rattle.cabinets.proofs.CourseKeeps.{Loops, trace_of}
+use Rattle.cabinets.proofs.Digests.{blocks_of, given}
 
 module _ (M : Members) (C : Cabinets M) where
   abbrev P : Party
-  P = partyOf M
+  P = party_of M
 
   abbrev B : Blocks
-  B = blocksOf M
+  B = blocks_of M
 
   abbrev T : ℕ → Trace
-  T q = traceOf (M.course q)
+  T q = trace_of (M.course q)
 
   pub rules : Rules P B
   rules = events.keeps-rules P B T (given M C)
@@ -51,7 +51,7 @@ module _ (M : Members) (C : Cabinets M) where
   Known s = events.Known P B T (given M C) s
 
   -- a certified block is of a lower round than its child, and certified if its child is
-  module _ (s c : Slot) (k : Known s) (l : Known c) (b : Backed P B s.digest) (g : isGenesis s.parent s.parent_round.0 ≡ false) (e : c.digest ≡ s.parent) where
+  module _ (s c : Slot) (k : Known s) (l : Known c) (b : Backed P B s.digest) (g : is_genesis s.parent s.parent_round.0 ≡ false) (e : c.digest ≡ s.parent) where
     on : (B.parent s.digest ≡ child-of c.digest) × (below P B s.digest ≡ B.round c.digest)
     on = events.child P B T (given M C) s c k g e
 
@@ -61,23 +61,23 @@ module _ (M : Members) (C : Cabinets M) where
     parent-backed : Backed P B c.digest
     parent-backed = (sound P B rules s.digest b).backed c.digest on.0
 
-  module _ (p : ℕ) (o : Sits M p) (i : ℕ) (came : Passed (worldAt (M.course p) i) (eventAt (M.course p) i) ⊎ Loops (M.course p) i) where
+  module _ (p : ℕ) (o : Sits M p) (i : ℕ) (came : Passed (world_at (M.course p) i) (event_at (M.course p) i) ⊎ Loops (M.course p) i) where
     abbrev r : Course
     r = M.course p
 
     abbrev t : List Slot
-    t = (worldAt r i).table
+    t = (world_at r i).table
 
     abbrev b : Slot
-    b = slotFor (blockIn r i)
+    b = slot_for (block_in r i)
 
     abbrev last : ℕ
-    last = committedOf (worldAt r i)
+    last = committed_of (world_at r i)
 
-    offer : (j : ℕ) × Offered (traceOf r) j (contentOf (blockIn r i))
+    offer : (j : ℕ) × Offered (trace_of r) j (content_of (block_in r i))
     offer =
         events.offered P B T (given M C) p (sitting M p o) (suc i)
-        (contentOf (blockIn r i)) (came, refl)
+        (content_of (block_in r i)) (came, refl)
 
     known-here : (s : Slot) → Has t s → Known s
     known-here s h = events.known P B T (given M C) p (sitting M p o) (suc i) s (inl h)
@@ -85,12 +85,12 @@ module _ (M : Members) (C : Cabinets M) where
     known-block : Known b
     known-block =
         events.known-offered P B T (given M C) p (sitting M p o) offer.0
-        (contentOf (blockIn r i)) offer.1
+        (content_of (block_in r i)) offer.1
 
     known-stored : (s : Slot) → Has (stored t b) s → Known s
     known-stored s h = ⊎_elim (λ (e : s ≡ b). rw e known-block) (λ k. known-here s k) (stored-has t b s h)
 
-    module _ (found : (ancestorsOf t b).answer ≡ 0) (newer : last < (ancestorsOf t b).b0.round.0) (consecutive : (ancestorsOf t b).b0.round.0 + 1 ≡ (ancestorsOf t b).b1.round.0) where
+    module _ (found : (ancestors_of t b).answer ≡ 0) (newer : last < (ancestors_of t b).b0.round.0) (consecutive : (ancestors_of t b).b0.round.0 + 1 ≡ (ancestors_of t b).b1.round.0) where
       closed : Closed (stored t b)
       closed = closed-stored t b (closed_at r i) refl (ancestors-both t b found).0
 
@@ -103,11 +103,11 @@ module _ (M : Members) (C : Cabinets M) where
       ancestors : Line t b
       ancestors = line t b found (omega arith) (omega arith)
 
-      first : Walks (ancestorsOf t b).b0
+      first : Walks (ancestors_of t b).b0
       first =
           let a = ancestors in
-          let b1 = (ancestorsOf t b).b1 in
-          let b0 = (ancestorsOf t b).b0 in
+          let b1 = (ancestors_of t b).b1 in
+          let b0 = (ancestors_of t b).b0 in
           let k1 = known-here b1 a.has1 in
           let k0 = known-here b0 a.has0 in
           let c1 : Backed P B b1.digest =
@@ -122,9 +122,9 @@ module _ (M : Members) (C : Cabinets M) where
           }
 
       sure : (s : Slot) → Walks s → Sure (stored t b) last Walks s
-      sure s k = cases (isGenesis s.parent s.parent_round.0) refl
+      sure s k = cases (is_genesis s.parent s.parent_round.0) refl
         where
-          cases : (g : Bool) → isGenesis s.parent s.parent_round.0 ≡ g → Sure (stored t b) last Walks s
+          cases : (g : Bool) → is_genesis s.parent s.parent_round.0 ≡ g → Sure (stored t b) last Walks s
           cases true g =
               let z : (parent_of (stored t b) s).slot.round.0 ≡ 0 = ap (λ (x : Parent). x.slot.round.0) (parent-genesis (stored t b) s g) in
               record {
@@ -142,9 +142,9 @@ module _ (M : Members) (C : Cabinets M) where
                 next = λ u. record { knows = l; certified = parent-backed s c k.knows l k.certified g h.1; parent = closed.parent c h.0 };
               }
 
-      walk_ends : (n : ℕ) → walk_of (stored t b) (ancestorsOf t b).b0 last ≡ refused n → ⊥
+      walk_ends : (n : ℕ) → walk_of (stored t b) (ancestors_of t b).b0 last ≡ refused n → ⊥
       walk_ends n e =
-          let d = walk-delivers (stored t b) last Walks sure (ancestorsOf t b).b0 first in
+          let d = walk-delivers (stored t b) last Walks sure (ancestors_of t b).b0 first in
           let x : refused n ≡ delivers d.0 = sym e ∙ d.1 in
           let z : ◌≡◌ {A = ℕ} 0 1 = cc in
           omega arith
@@ -154,7 +154,7 @@ module _ (M : Members) (C : Cabinets M) where
     never-stopped n (in-walk f g h e) = walk_ends f h g n e
 
   -- Of a member that obeys no event is answered 30 or 31.
-  pub stops-never : (p : ℕ) → Sits M p → (i n : ℕ) → (n ≡ ancestorAbsent) ⊎ (n ≡ roundNotBelow) → (result_at (M.course p) i).answer ≡ n → ⊥
+  pub stops-never : (p : ℕ) → Sits M p → (i n : ℕ) → (n ≡ ancestor_absent) ⊎ (n ≡ round_not_below) → (result_at (M.course p) i).answer ≡ n → ⊥
   stops-never p o i n is a =
-      let k = stopped (worldAt (M.course p) i) (eventAt (M.course p) i) (total (M.course p)) (started-at (M.course p) i) n is a in
+      let k = stopped (world_at (M.course p) i) (event_at (M.course p) i) (total (M.course p)) (started-at (M.course p) i) n is a in
       never-stopped p o i k.brought n k.by

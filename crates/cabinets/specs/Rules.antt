@@ -1,7 +1,7 @@
 -- The rules that W11 rests on, over lives: what a vote says of a block and its parent, and what a commit delivers. Each is a rule of 01; that a course of the definition
 -- keeps them all is `keeps-rules` of proofs/Events.
 --     Parent, Blocks          what a block stands on; one block to a digest
---     roundOf, below          the round of what a block stands on
+--     round_of, below          the round of what a block stands on
 --     Backed d                the block has a certificate
 --     Sound d                 what is so of a block that a member who obeys votes for
 --     Rule l d                the voting rule, for a block that a member votes for
@@ -30,12 +30,12 @@ Starts xs ys = (zs : List Hash) × (xs ++ zs ≡ ys)
 
 module _ (P : Party) (B : Blocks) where
   -- the round of what a block stands on, which is the round of its QC
-  unfoldable pub roundOf : Parent → ℕ
-  roundOf genesis = 0
-  roundOf (child-of d) = B.round d
+  unfoldable pub round_of : Parent → ℕ
+  round_of genesis = 0
+  round_of (child-of d) = B.round d
 
   abbrev pub below : Hash → ℕ
-  below d = roundOf (B.parent d)
+  below d = round_of (B.parent d)
 
   abbrev pub Backed : Hash → Type 0
   Backed d = Certified P d (B.round d)

@@ -15,10 +15,10 @@ use Rattle.certificates.specs.declared.numbers.Place.{Place}
 use Rattle.certificates.specs.declared.numbers.Signers.{Signers}
 use Rattle.certificates.specs.declared.messages.Checked.{Checked}
 use Rattle.certificates.specs.declared.messages.Checked.TheVariants.{Accepted, AuthorityReuse, UnknownAuthority, RequiresQuorum, InvalidSignature, Cut}
-use Rattle.certificates.specs.Config.{membersMax, stakeOf}
-use Rattle.certificates.specs.Signers.{isIn, stakeIn, both, words, noSigners, signersOf, weightOf, member, stakeOn, shared}
-use Rattle.certificates.specs.Messages.{Form, qcForm, tcForm, verdictIn, count_of, placesIn, is_whole, unknownTo, settled_of, checkFrom, checkPart}
-use Rattle.certificates.specs.Messages.{qcCheck, tcCheck, equalsGenesis, embeddedCheck}
+use Rattle.certificates.specs.Config.{members_max, stake_of}
+use Rattle.certificates.specs.Signers.{is_in, stake_in, both, words, no_signers, signers_of, weight_of, member, stake_on, shared}
+use Rattle.certificates.specs.Messages.{Form, qc_form, tc_form, verdict_in, count_of, places_in, is_whole, unknown_to, settled_of, check_from, check_part}
+use Rattle.certificates.specs.Messages.{qc_check, tc_check, equals_genesis, embedded_check}
 use Rattle.certificates.proofs.Bytes.{length-nums}
 use Rattle.certificates.proofs.ConfigLaws.{stake-member}
 use Rattle.certificates.proofs.Places.{member-snoc, member-take, member-index, member-shared}
@@ -59,19 +59,19 @@ step-not-cut false false p rest n e = n e
 -- the rest of a list, after those seen: none is named again, and each is known
 pub data Walked (m : List ℕ) : List ℕ → List ℕ → Type 0 where
   ends : {seen : List ℕ} → Walked m seen []
-  steps : {seen : List ℕ} {p : ℕ} {ps : List ℕ} → member p seen ≡ false → unknownTo m p ≡ false → Walked m (seen ++ p ∷ []) ps → Walked m seen (p ∷ ps)
+  steps : {seen : List ℕ} {p : ℕ} {ps : List ℕ} → member p seen ≡ false → unknown_to m p ≡ false → Walked m (seen ++ p ∷ []) ps → Walked m seen (p ∷ ps)
 
 module _ (m : List ℕ) (need : ℕ) (verdict : Bool) where
-  accepted-walked : (seen ps : List ℕ) (s : Signers) → checkFrom m need verdict seen ps ≡ Accepted s → Walked m seen ps
-  unfolding checkFrom
+  accepted-walked : (seen ps : List ℕ) (s : Signers) → check_from m need verdict seen ps ≡ Accepted s → Walked m seen ps
+  unfolding check_from
   accepted-walked seen [] s e = ends
   accepted-walked seen (p ∷ ps) s e =
-      let t = from_step (member p seen) (unknownTo m p) record { 0 = p } (checkFrom m need verdict (seen ++ p ∷ []) ps) s e in
+      let t = from_step (member p seen) (unknown_to m p) record { 0 = p } (check_from m need verdict (seen ++ p ∷ []) ps) s e in
       steps t.0 t.1 (accepted-walked (seen ++ p ∷ []) ps s t.2)
 
   -- then the quorum and the verdict decide
-  pub walked-settled : {seen ps : List ℕ} → Walked m seen ps → checkFrom m need verdict seen ps ≡ settled_of m need verdict (seen ++ ps)
-  unfolding checkFrom
+  pub walked-settled : {seen ps : List ℕ} → Walked m seen ps → check_from m need verdict seen ps ≡ settled_of m need verdict (seen ++ ps)
+  unfolding check_from
   walked-settled {seen} ends = rw append-nil
   walked-settled (steps {seen = seen} {p = p} {ps = ps} fresh some w) = rw (fresh, some) (walked-settled w ∙ rw append_assoc)
 
@@ -87,13 +87,13 @@ walked-fresh m ends j h = absurd (omega arith)
 walked-fresh m (steps fresh some w) zero h = rw append-nil fresh
 walked-fresh m (steps {seen = seen} {p = p} {ps = ps} fresh some w) (suc j) h = rw append_assoc at (walked-fresh m w j (omega arith))
 
-walked-known : (m : List ℕ) {seen ps : List ℕ} → Walked m seen ps → (j : ℕ) → j < length ps → unknownTo m (get_or ps j 0) ≡ false
+walked-known : (m : List ℕ) {seen ps : List ℕ} → Walked m seen ps → (j : ℕ) → j < length ps → unknown_to m (get_or ps j 0) ≡ false
 walked-known m ends j h = absurd (omega arith)
 walked-known m (steps fresh some w) zero h = some
 walked-known m (steps fresh some w) (suc j) h = walked-known m w j (omega arith)
 
 walked_from : (m seen ps : List ℕ) → ((j : ℕ) → j < length ps → member (get_or ps j 0) (seen ++ take j ps) ≡ false)
-    → ((j : ℕ) → j < length ps → unknownTo m (get_or ps j 0) ≡ false)
+    → ((j : ℕ) → j < length ps → unknown_to m (get_or ps j 0) ≡ false)
     → Walked m seen ps
 walked_from m seen [] fresh some = ends
 walked_from m seen (p ∷ ps) fresh some =
@@ -173,10 +173,10 @@ walked-shared m qs (steps {seen = seen} {p = p} {ps = ps} fresh some w) seen' h 
 
 -- two lists that are walked, with their sets: the stake of what they share is the stake of what is in both sets
 pub shared-stake : (m ps qs : List ℕ) (v w : Signers) → Walked m [] ps → Clean m ps (words v) → Clean m qs (words w)
-    → stakeOn m (shared ps qs) ≡ stakeIn m (both (words v) (words w))
+    → stake_on m (shared ps qs) ≡ stake_in m (both (words v) (words w))
 unfolding both Covers
 shared-stake m ps qs v w walked cv cw =
-    let k = walked-signed m noSigners (walked-shared m qs walked [] (λ q e. e)) (signed-none m) in
+    let k = walked-signed m no_signers (walked-shared m qs walked [] (λ q e. e)) (signed-none m) in
     k.1.clean.stake
     ∙ stake-same m (words k.0) (both (words v) (words w)) refl
     (λ q.
@@ -192,16 +192,16 @@ shared-stake m ps qs v w walked cv cw =
 -- ---- the forms
 
 module _ (m : List ℕ) (need : ℕ) (part : List ℕ) where
-  pub qc-part : qcCheck m need part ≡ checkPart qcForm m need part
-  unfolding qcCheck
+  pub qc-part : qc_check m need part ≡ check_part qc_form m need part
+  unfolding qc_check
   qc-part = refl
 
-  pub tc-part : tcCheck m need part ≡ checkPart tcForm m need part
-  unfolding tcCheck
+  pub tc-part : tc_check m need part ≡ check_part tc_form m need part
+  unfolding tc_check
   tc-part = refl
 
-  pub embedded-part : equalsGenesis part ≡ false → embeddedCheck m need part ≡ checkPart qcForm m need part
-  unfolding embeddedCheck
+  pub embedded-part : equals_genesis part ≡ false → embedded_check m need part ≡ check_part qc_form m need part
+  unfolding embedded_check
   embedded-part other = rw other qc-part
 
 -- ---- an accepted certificate
@@ -210,21 +210,21 @@ pub record Certified (f : Form) (m : List ℕ) (need : ℕ) (part : List ℕ) (s
   -- the bytes hold the whole list
   pub whole : f.at + 3 + f.stride * count_of f part ≤ length part
   -- the set is that of the list
-  pub who : signersOf (placesIn f part) ≡ s
-  pub walked : Walked m [] (placesIn f part)
-  pub clean : Clean m (placesIn f part) (words s)
+  pub who : signers_of (places_in f part) ≡ s
+  pub walked : Walked m [] (places_in f part)
+  pub clean : Clean m (places_in f part) (words s)
   -- its stake reaches what is needed
-  pub quorum : need ≤ weightOf m s
-  pub verdict : verdictIn f part ≡ 1
+  pub quorum : need ≤ weight_of m s
+  pub verdict : verdict_in f part ≡ 1
 
-pub certified : (f : Form) (m : List ℕ) (need : ℕ) (part : List ℕ) (s : Signers) → checkPart f m need part ≡ Accepted s → Certified f m need part s
-unfolding checkPart is_whole settled_of weightOf
+pub certified : (f : Form) (m : List ℕ) (need : ℕ) (part : List ℕ) (s : Signers) → check_part f m need part ≡ Accepted s → Certified f m need part s
+unfolding check_part is_whole settled_of weight_of
 certified f m need part s e =
-    let ps = placesIn f part in
+    let ps = places_in f part in
     let a = from-part (leb (f.at + 3 + f.stride * count_of f part) (length part)) _ s e in
-    let w = accepted-walked m need (eqb (verdictIn f part) 1) [] ps s a.1 in
-    let b = from_settled (ltb (stakeOn m ps) need) (eqb (verdictIn f part) 1) (signersOf ps) s (sym (walked-settled m need (eqb (verdictIn f part) 1) w) ∙ a.1) in
-    let k = walked-signed m noSigners w (signed-none m) in
+    let w = accepted-walked m need (eqb (verdict_in f part) 1) [] ps s a.1 in
+    let b = from_settled (ltb (stake_on m ps) need) (eqb (verdict_in f part) 1) (signers_of ps) s (sym (walked-settled m need (eqb (verdict_in f part) 1) w) ∙ a.1) in
+    let k = walked-signed m no_signers w (signed-none m) in
     let same : k.0 ≡ s = sym k.1.who ∙ b.2 in
     let clean : Clean m ps (words s) = rw same at k.1.clean in
     record {
@@ -232,46 +232,46 @@ certified f m need part s e =
       who = b.2;
       walked = w;
       clean = clean;
-      quorum = omega (arith, clean.stake, ltb-false (stakeOn m ps) need b.0);
-      verdict = eqb-true (verdictIn f part) 1 b.1;
+      quorum = omega (arith, clean.stake, ltb-false (stake_on m ps) need b.0);
+      verdict = eqb-true (verdict_in f part) 1 b.1;
     }
 
-pub accepted : (f : Form) (m : List ℕ) (need : ℕ) (part : List ℕ) → f.at + 3 + f.stride * count_of f part ≤ length part → Walked m [] (placesIn f part)
-    → need ≤ stakeOn m (placesIn f part) → verdictIn f part ≡ 1 → checkPart f m need part ≡ Accepted (signersOf (placesIn f part))
-unfolding checkPart is_whole settled_of
+pub accepted : (f : Form) (m : List ℕ) (need : ℕ) (part : List ℕ) → f.at + 3 + f.stride * count_of f part ≤ length part → Walked m [] (places_in f part)
+    → need ≤ stake_on m (places_in f part) → verdict_in f part ≡ 1 → check_part f m need part ≡ Accepted (signers_of (places_in f part))
+unfolding check_part is_whole settled_of
 accepted f m need part h w q v =
     rw (le-leb _ (length part) h)
-    (walked-settled m need (eqb (verdictIn f part) 1) w ∙ rw (le-ltb (stakeOn m (placesIn f part)) need q, eq-eqb (verdictIn f part) 1 v))
+    (walked-settled m need (eqb (verdict_in f part) 1) w ∙ rw (le-ltb (stake_on m (places_in f part)) need q, eq-eqb (verdict_in f part) 1 v))
 
 -- a list of distinct members with stake that names whom a set has is accepted where the set's stake reaches what is needed
-pub named-accepted : (f : Form) (m : List ℕ) (need : ℕ) (part : List ℕ) (s : Signers) → f.at + 3 + f.stride * count_of f part ≤ length part → Distinct m (placesIn f part)
-    → ((q : ℕ) → isIn (words s) q ≡ cond (member q (placesIn f part)) 1 0) → need ≤ weightOf m s → verdictIn f part ≡ 1
-    → checkPart f m need part ≡ Accepted (signersOf (placesIn f part))
-unfolding weightOf
+pub named-accepted : (f : Form) (m : List ℕ) (need : ℕ) (part : List ℕ) (s : Signers) → f.at + 3 + f.stride * count_of f part ≤ length part → Distinct m (places_in f part)
+    → ((q : ℕ) → is_in (words s) q ≡ cond (member q (places_in f part)) 1 0) → need ≤ weight_of m s → verdict_in f part ≡ 1
+    → check_part f m need part ≡ Accepted (signers_of (places_in f part))
+unfolding weight_of
 named-accepted f m need part s h d same q v =
-    let w = distinct-walked m (placesIn f part) d in
-    let k = walked-signed m noSigners w (signed-none m) in
+    let w = distinct-walked m (places_in f part) d in
+    let k = walked-signed m no_signers w (signed-none m) in
     let held = stake-same m (words k.0) (words s) refl (λ p. k.1.clean.bits p ∙ sym (same p)) in
     accepted f m need part h w (omega (arith, k.1.clean.stake, held, q)) v
 
 -- a list that is whole is never cut
-pub check-not-cut : (m : List ℕ) (need : ℕ) (verdict : Bool) (seen ps : List ℕ) → checkFrom m need verdict seen ps ≢ Cut
-unfolding checkFrom settled_of
-check-not-cut m need verdict seen [] e = settled-not-cut (ltb (stakeOn m seen) need) verdict (signersOf seen) e
+pub check-not-cut : (m : List ℕ) (need : ℕ) (verdict : Bool) (seen ps : List ℕ) → check_from m need verdict seen ps ≢ Cut
+unfolding check_from settled_of
+check-not-cut m need verdict seen [] e = settled-not-cut (ltb (stake_on m seen) need) verdict (signers_of seen) e
 check-not-cut m need verdict seen (p ∷ ps) e =
-    step-not-cut (member p seen) (unknownTo m p) record { 0 = p } (checkFrom m need verdict (seen ++ p ∷ []) ps)
+    step-not-cut (member p seen) (unknown_to m p) record { 0 = p } (check_from m need verdict (seen ++ p ∷ []) ps)
     (check-not-cut m need verdict (seen ++ p ∷ []) ps) e
 
-pub whole-not-cut : (f : Form) (m : List ℕ) (need : ℕ) (part : List ℕ) → f.at + 3 + f.stride * count_of f part ≤ length part → checkPart f m need part ≢ Cut
-unfolding checkPart is_whole
-whole-not-cut f m need part h e = check-not-cut m need (eqb (verdictIn f part) 1) [] (placesIn f part) (rw (le-leb _ (length part) h) at e)
+pub whole-not-cut : (f : Form) (m : List ℕ) (need : ℕ) (part : List ℕ) → f.at + 3 + f.stride * count_of f part ≤ length part → check_part f m need part ≢ Cut
+unfolding check_part is_whole
+whole-not-cut f m need part h e = check-not-cut m need (eqb (verdict_in f part) 1) [] (places_in f part) (rw (le-leb _ (length part) h) at e)
 
 set-is-in : (b : Bool) → 0 < cond b 1 0 → b ≡ true
 set-is-in true h = refl
 set-is-in false h = absurd (omega arith)
 
-pub length-places : (f : Form) (part : List ℕ) → length (placesIn f part) ≡ count_of f part
-unfolding placesIn
+pub length-places : (f : Form) (part : List ℕ) → length (places_in f part) ≡ count_of f part
+unfolding places_in
 length-places f part = length-nums 2 f.stride (count_of f part) part (f.at + 3)
 
 module _ {f : Form} {m : List ℕ} {need : ℕ} {part : List ℕ} {s : Signers} (k : Certified f m need part s) where
@@ -280,14 +280,14 @@ module _ {f : Form} {m : List ℕ} {need : ℕ} {part : List ℕ} {s : Signers} 
   certified-count = sym (words_count s) ∙ k.clean.count ∙ length-places f part
 
   -- who is in the set is in the list
-  pub certified-named : (p : ℕ) → isIn (words s) p ≡ 1 → member p (placesIn f part) ≡ true
-  certified-named p h = set-is-in (member p (placesIn f part)) (omega (arith, k.clean.bits p, h))
+  pub certified-named : (p : ℕ) → is_in (words s) p ≡ 1 → member p (places_in f part) ≡ true
+  certified-named p h = set-is-in (member p (places_in f part)) (omega (arith, k.clean.bits p, h))
 
   -- and is a member with stake
-  pub certified-known : (p : ℕ) → isIn (words s) p ≡ 1 → Known m p
+  pub certified-known : (p : ℕ) → is_in (words s) p ≡ 1 → Known m p
   certified-known p h =
-      let t = member-index p (placesIn f part) (length (placesIn f part)) (rw take-length (certified-named p h)) in
-      rw t.3 at ((walked-distinct m (placesIn f part) k.walked).known t.0 t.2)
+      let t = member-index p (places_in f part) (length (places_in f part)) (rw take-length (certified-named p h)) in
+      rw t.3 at ((walked-distinct m (places_in f part) k.walked).known t.0 t.2)
 
-  pub certified-member : (p : ℕ) → isIn (words s) p ≡ 1 → p < length m
+  pub certified-member : (p : ℕ) → is_in (words s) p ≡ 1 → p < length m
   certified-member p h = stake-member m p (certified-known p h).stake

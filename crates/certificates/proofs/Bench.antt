@@ -9,13 +9,13 @@ use Rattle.certificates.specs.declared.config.Setup.{Setup}
 use Rattle.certificates.specs.declared.config.Setup.TheVariants.{Bad, Total}
 use Rattle.certificates.specs.declared.messages.Checked.{Checked}
 use Rattle.certificates.specs.declared.messages.Checked.TheVariants.{Accepted, AuthorityReuse, UnknownAuthority, RequiresQuorum, InvalidSignature, Cut}
-use Rattle.certificates.specs.Num.{le, num_at, hashAt, numsAt}
-use Rattle.certificates.specs.Config.{sum, stakeOf, quorumFrom, quorumOf, limited, setupOf}
-use Rattle.certificates.specs.Start.{memberCount, ownPlace, stakesIn, key_at, keysFrom, keysIn, below, ascending, setupAt}
-use Rattle.certificates.specs.Leader.{leaderOf}
-use Rattle.certificates.specs.Signers.{signersFrom, signersOf, member, stakeOn}
-use Rattle.certificates.specs.Messages.{isGenesis, verdictIn, count_of, placesIn, is_whole, unknownTo, settled_of, checkFrom, checkPart, qcCheck, equalsGenesis, embeddedCheck}
-use Rattle.certificates.specs.Error.{badSetup, qcRequiresQuorum, number_of}
+use Rattle.certificates.specs.Num.{le, num_at, hash_at, nums_at}
+use Rattle.certificates.specs.Config.{sum, stake_of, quorum_from, quorum_of, limited, setup_of}
+use Rattle.certificates.specs.Start.{member_count, own_place, stakes_in, key_at, keys_from, keys_in, below, ascending, setup_at}
+use Rattle.certificates.specs.Leader.{leader_of}
+use Rattle.certificates.specs.Signers.{signers_from, signers_of, member, stake_on}
+use Rattle.certificates.specs.Messages.{is_genesis, verdict_in, count_of, places_in, is_whole, unknown_to, settled_of, check_from, check_part, qc_check, equals_genesis, embedded_check}
+use Rattle.certificates.specs.Error.{bad_setup, qc_requires_quorum, number_of}
 
 -- ---- bytes
 
@@ -29,12 +29,12 @@ entries [] = []
 entries (p ∷ ps) = bytes_of 2 p ++ entries ps
 
 -- START's body for one member that holds the whole stake
-unfoldable pub startBytes : ℕ → List ℕ
-startBytes total = bytes_of 2 1 ++ bytes_of 2 0 ++ replicate 32 0 ++ bytes_of 4 total
+unfoldable pub start_bytes : ℕ → List ℕ
+start_bytes total = bytes_of 2 1 ++ bytes_of 2 0 ++ replicate 32 0 ++ bytes_of 4 total
 
 -- a QC of hash zero
-unfoldable pub qcBytes : ℕ → ℕ → List ℕ → List ℕ
-qcBytes round verdict ps = replicate 32 0 ++ bytes_of 8 round ++ bytes_of 1 verdict ++ bytes_of 2 (length ps) ++ entries ps
+unfoldable pub qc_bytes : ℕ → ℕ → List ℕ → List ℕ
+qc_bytes round verdict ps = replicate 32 0 ++ bytes_of 8 round ++ bytes_of 1 verdict ++ bytes_of 2 (length ps) ++ entries ps
 
 -- ---- readings
 
@@ -50,24 +50,24 @@ pub data Question : Type 0 where
   counts : ℕ → List ℕ → Question
   in_block : ℕ → ℕ → List ℕ → Question
 
-unfoldable pub afterStart : Setup → ℕ
-afterStart Bad = badSetup
-afterStart (Total t) = quorumFrom t.0
+unfoldable pub after_start : Setup → ℕ
+after_start Bad = bad_setup
+after_start (Total t) = quorum_from t.0
 
-unfoldable pub acceptedBy : Checked → ℕ
-acceptedBy (Accepted s) = ones s.0
-acceptedBy (AuthorityReuse p) = 0
-acceptedBy (UnknownAuthority p) = 0
-acceptedBy RequiresQuorum = 0
-acceptedBy InvalidSignature = 0
-acceptedBy Cut = 0
+unfoldable pub accepted_by : Checked → ℕ
+accepted_by (Accepted s) = ones s.0
+accepted_by (AuthorityReuse p) = 0
+accepted_by (UnknownAuthority p) = 0
+accepted_by RequiresQuorum = 0
+accepted_by InvalidSignature = 0
+accepted_by Cut = 0
 
-unfoldable pub answerTo : Question → ℕ
-answerTo (totals total) = afterStart (setupAt (startBytes total))
-answerTo (leads round) = leaderOf four round
-answerTo (signers verdict ps) = number_of (qcCheck four (quorumOf four) (qcBytes 1 verdict ps)) qcRequiresQuorum
-answerTo (counts verdict ps) = acceptedBy (qcCheck four (quorumOf four) (qcBytes 1 verdict ps))
-answerTo (in_block round verdict ps) = number_of (embeddedCheck four (quorumOf four) (qcBytes round verdict ps)) qcRequiresQuorum
+unfoldable pub answer_to : Question → ℕ
+answer_to (totals total) = after_start (setup_at (start_bytes total))
+answer_to (leads round) = leader_of four round
+answer_to (signers verdict ps) = number_of (qc_check four (quorum_of four) (qc_bytes 1 verdict ps)) qc_requires_quorum
+answer_to (counts verdict ps) = accepted_by (qc_check four (quorum_of four) (qc_bytes 1 verdict ps))
+answer_to (in_block round verdict ps) = number_of (embedded_check four (quorum_of four) (qc_bytes round verdict ps)) qc_requires_quorum
 
 pub record Reading : Type 0 where
   pub asked : Question
@@ -99,9 +99,9 @@ readings =
     ∷ reads (in_block 1 0 (9 ∷ 9 ∷ [])) 22
     ∷ []
 
-pub bench : map (λ (r : Reading). answerTo r.asked) readings ≡ map (λ (r : Reading). r.said) readings
-unfolding answerTo afterStart acceptedBy four startBytes qcBytes bytes_of entries
-    le num_at hashAt numsAt sum stakeOf quorumFrom quorumOf limited setupOf
-    memberCount ownPlace stakesIn key_at keysFrom keysIn below ascending setupAt leaderOf
-    signersFrom signersOf member stakeOn isGenesis verdictIn count_of placesIn is_whole unknownTo settled_of checkFrom checkPart qcCheck equalsGenesis embeddedCheck ones
+pub bench : map (λ (r : Reading). answer_to r.asked) readings ≡ map (λ (r : Reading). r.said) readings
+unfolding answer_to after_start accepted_by four start_bytes qc_bytes bytes_of entries
+    le num_at hash_at nums_at sum stake_of quorum_from quorum_of limited setup_of
+    member_count own_place stakes_in key_at keys_from keys_in below ascending setup_at leader_of
+    signers_from signers_of member stake_on is_genesis verdict_in count_of places_in is_whole unknown_to settled_of check_from check_part qc_check equals_genesis embedded_check ones
 bench = refl

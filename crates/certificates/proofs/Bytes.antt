@@ -11,8 +11,8 @@ use lib.Seq.{take-add, drop-drop, drop-cons, length-take-le}
 use lib.Dec.{leb}
 use borrow.Author.Tests.{le-leb, lt-leb, leb-true}
 use Rattle.certificates.specs.declared.numbers.Hash.{Hash}
-use Rattle.certificates.specs.Numbers.{zeroHash}
-use Rattle.certificates.specs.Num.{le, num_at, hashIn, hashAt, numsAt}
+use Rattle.certificates.specs.Numbers.{zero_hash}
+use Rattle.certificates.specs.Num.{le, num_at, hash_in, hash_at, nums_at}
 
 -- what a test that held, or failed, says
 pub leb_yes : {a b : ℕ} → a ≤ b → true ≡ leb a b
@@ -56,15 +56,15 @@ module _ (s : List ℕ) (at : ℕ) where
 
   -- a hash is four reads of 8 bytes
   pub hash-read : {a b c d : ℕ} → a ≡ le (take 8 (drop at s)) → b ≡ le (take 8 (drop (at + 8) s)) → c ≡ le (take 8 (drop (at + 16) s)) → d ≡ le (take 8 (drop (at + 24) s))
-      → record { a = a; b = b; c = c; d = d } ≡ hashIn s at
+      → record { a = a; b = b; c = c; d = d } ≡ hash_in s at
   hash-read e f g h = rw (e, f, g, h)
 
-  pub hash-in : {x : Hash} {t : Bool} → t ≡ leb (at + 32) (length s) → t ≡ true → x ≡ hashIn s at → x ≡ hashAt s at
-  unfolding hashAt
+  pub hash-in : {x : Hash} {t : Bool} → t ≡ leb (at + 32) (length s) → t ≡ true → x ≡ hash_in s at → x ≡ hash_at s at
+  unfolding hash_at
   hash-in e t p = rw (← e, t) p
 
-  pub hash-out : {t : Bool} → t ≡ leb (at + 32) (length s) → t ≡ false → zeroHash ≡ hashAt s at
-  unfolding hashAt
+  pub hash-out : {t : Bool} → t ≡ leb (at + 32) (length s) → t ≡ false → zero_hash ≡ hash_at s at
+  unfolding hash_at
   hash-out e t = rw (← e, t)
 
   -- a read whose bytes all lie in s
@@ -74,13 +74,13 @@ module _ (s : List ℕ) (at : ℕ) where
 
 -- ---- the numbers that entries begin with
 
-pub length-nums : (w k n : ℕ) (s : List ℕ) (at : ℕ) → length (numsAt w k n s at) ≡ n
-unfolding numsAt
+pub length-nums : (w k n : ℕ) (s : List ℕ) (at : ℕ) → length (nums_at w k n s at) ≡ n
+unfolding nums_at
 length-nums w k zero s at = refl
 length-nums w k (suc n) s at = ap suc (length-nums w k n s (at + k))
 
-pub nums_at : (w k n : ℕ) (s : List ℕ) (at i : ℕ) → i < n → get_or (numsAt w k n s at) i 0 ≡ num_at w s (at + k * i)
-unfolding numsAt
-nums_at w k zero s at i h = absurd (omega arith)
-nums_at w k (suc n) s at zero h = ap (λ (j : ℕ). num_at w s j) (omega (arith, mul-zero k))
-nums_at w k (suc n) s at (suc i) h = nums_at w k n s (at + k) i (omega arith) ∙ ap (λ (j : ℕ). num_at w s j) (omega (arith, mul-suc k i))
+pub nums_at_lem : (w k n : ℕ) (s : List ℕ) (at i : ℕ) → i < n → get_or (nums_at w k n s at) i 0 ≡ num_at w s (at + k * i)
+unfolding nums_at
+nums_at_lem w k zero s at i h = absurd (omega arith)
+nums_at_lem w k (suc n) s at zero h = ap (λ (j : ℕ). num_at w s j) (omega (arith, mul-zero k))
+nums_at_lem w k (suc n) s at (suc i) h = nums_at_lem w k n s (at + k) i (omega arith) ∙ ap (λ (j : ℕ). num_at w s j) (omega (arith, mul-suc k i))

@@ -14,27 +14,27 @@ use Rattle.certificates.specs.declared.numbers.Place.{Place}
 use Rattle.certificates.specs.declared.numbers.Signers.{Signers}
 use Rattle.certificates.specs.declared.messages.Checked.{Checked}
 use Rattle.certificates.specs.declared.messages.Checked.TheVariants.{Accepted, AuthorityReuse, UnknownAuthority, RequiresQuorum, InvalidSignature, Cut}
-use Rattle.certificates.specs.Num.{num_at, numsAt}
-use Rattle.certificates.specs.Config.{membersMax, stakeOf}
-use Rattle.certificates.specs.Signers.{weightOf, member, stakeOn}
-use Rattle.certificates.specs.Messages.{Form, verdictIn, count_of, placesIn, is_whole, unknownTo, settled_of, settledBy, checkFrom, checkPart}
+use Rattle.certificates.specs.Num.{num_at, nums_at}
+use Rattle.certificates.specs.Config.{members_max, stake_of}
+use Rattle.certificates.specs.Signers.{weight_of, member, stake_on}
+use Rattle.certificates.specs.Messages.{Form, verdict_in, count_of, places_in, is_whole, unknown_to, settled_of, settled_by, check_from, check_part}
 use Rattle.certificates.proofs.Places.{member-take}
 use Rattle.certificates.proofs.Clean.{Clean, Signed}
 
 -- ---- a known place
 
 module _ (m : List ℕ) (p : ℕ) where
-  pub unknown-past : membersMax ≤ p → true ≡ unknownTo m p
-  unfolding unknownTo
-  unknown-past h = rw (le-ltb p membersMax h)
+  pub unknown-past : members_max ≤ p → true ≡ unknown_to m p
+  unfolding unknown_to
+  unknown-past h = rw (le-ltb p members_max h)
 
-  pub unknown-stake : {x : ℕ} → p < membersMax → x ≡ stakeOf m p → eqb x 0 ≡ unknownTo m p
-  unfolding unknownTo
-  unknown-stake h e = rw (lt-ltb p membersMax h, e)
+  pub unknown-stake : {x : ℕ} → p < members_max → x ≡ stake_of m p → eqb x 0 ≡ unknown_to m p
+  unfolding unknown_to
+  unknown-stake h e = rw (lt-ltb p members_max h, e)
 
-  pub known-stake : p < membersMax → stakeOf m p ≢ 0 → unknownTo m p ≡ false
-  unfolding unknownTo
-  known-stake h n = rw (lt-ltb p membersMax h, ne_eqb (stakeOf m p) 0 n)
+  pub known-stake : p < members_max → stake_of m p ≢ 0 → unknown_to m p ≡ false
+  unfolding unknown_to
+  known-stake h n = rw (lt-ltb p members_max h, ne_eqb (stake_of m p) 0 n)
 
   from-known : (low none : Bool) → cond low none true ≡ false → (low ≡ true) × (none ≡ false)
   from-known true none e = (refl, e)
@@ -42,22 +42,22 @@ module _ (m : List ℕ) (p : ℕ) where
 
 -- what a known place is
 pub record Known (m : List ℕ) (p : ℕ) : Type 0 where
-  pub small : p < membersMax
-  pub stake : stakeOf m p ≢ 0
+  pub small : p < members_max
+  pub stake : stake_of m p ≢ 0
 
 -- ---- the quorum, and then the verdict
 
-module _ (m : List ℕ) (need : ℕ) (s : Signers) {held : ℕ} (e : held ≡ weightOf m s) where
-  pub settled-short : (verdict : Bool) → held < need → RequiresQuorum ≡ settledBy m need verdict s
-  unfolding settledBy
+module _ (m : List ℕ) (need : ℕ) (s : Signers) {held : ℕ} (e : held ≡ weight_of m s) where
+  pub settled-short : (verdict : Bool) → held < need → RequiresQuorum ≡ settled_by m need verdict s
+  unfolding settled_by
   settled-short verdict h = rw (← e, lt-ltb held need h)
 
-  pub settled-yes : {verdict : Bool} → need ≤ held → verdict ≡ true → Accepted s ≡ settledBy m need verdict s
-  unfolding settledBy
+  pub settled-yes : {verdict : Bool} → need ≤ held → verdict ≡ true → Accepted s ≡ settled_by m need verdict s
+  unfolding settled_by
   settled-yes h y = rw (← e, le-ltb held need h, y)
 
-  pub settled-no : {verdict : Bool} → need ≤ held → verdict ≡ false → InvalidSignature ≡ settledBy m need verdict s
-  unfolding settledBy
+  pub settled-no : {verdict : Bool} → need ≤ held → verdict ≡ false → InvalidSignature ≡ settled_by m need verdict s
+  unfolding settled_by
   settled-no h y = rw (← e, le-ltb held need h, y)
 
 -- ---- the walk
@@ -65,58 +65,58 @@ module _ (m : List ℕ) (need : ℕ) (s : Signers) {held : ℕ} (e : held ≡ we
 module _ (m : List ℕ) (need : ℕ) (verdict : Bool) (ps : List ℕ) (i : ℕ) where
   -- the check after the first i signers, where there is one more
   check-step : i < length ps
-      → checkFrom m need verdict (take i ps) (drop i ps)
+      → check_from m need verdict (take i ps) (drop i ps)
       ≡ cond (member (get_or ps i 0) (take i ps)) (AuthorityReuse record { 0 = get_or ps i 0 })
-      (cond (unknownTo m (get_or ps i 0)) (UnknownAuthority record { 0 = get_or ps i 0 }) (checkFrom m need verdict (take (i + 1) ps) (drop (i + 1) ps)))
-  unfolding checkFrom
+      (cond (unknown_to m (get_or ps i 0)) (UnknownAuthority record { 0 = get_or ps i 0 }) (check_from m need verdict (take (i + 1) ps) (drop (i + 1) ps)))
+  unfolding check_from
   check-step h = rw (drop-cons ps i 0 h, add-one, take-suc ps i 0 h)
 
   -- and where there is none
-  check-end : (s : Signers) → length ps ≤ i → Signed m (take i ps) s → checkFrom m need verdict (take i ps) (drop i ps) ≡ settledBy m need verdict s
-  unfolding checkFrom settled_of settledBy weightOf
+  check-end : (s : Signers) → length ps ≤ i → Signed m (take i ps) s → check_from m need verdict (take i ps) (drop i ps) ≡ settled_by m need verdict s
+  unfolding check_from settled_of settled_by weight_of
   check-end s h k = rw drop_of_length-le (rw (k.clean.stake, k.who))
 
 -- what a loop over the signers knows: the check of the whole list is the check of the rest, after those seen
 pub record Walk (m : List ℕ) (need : ℕ) (verdict : Bool) (ps : List ℕ) (i : ℕ) : Type 0 where
-  pub so_far : checkFrom m need verdict (take i ps) (drop i ps) ≡ checkFrom m need verdict [] ps
+  pub so_far : check_from m need verdict (take i ps) (drop i ps) ≡ check_from m need verdict [] ps
 
 pub walk_none : (m : List ℕ) (need : ℕ) (verdict : Bool) (ps : List ℕ) → Walk m need verdict ps 0
 walk_none m need verdict ps = record { so_far = refl }
 
 module _ {m : List ℕ} {need : ℕ} {verdict : Bool} {ps : List ℕ} {i : ℕ} (k : Walk m need verdict ps i) where
-  pub at-end : (s : Signers) → length ps ≤ i → Signed m (take i ps) s → {r : Checked} → r ≡ settledBy m need verdict s → r ≡ checkFrom m need verdict [] ps
+  pub at-end : (s : Signers) → length ps ≤ i → Signed m (take i ps) s → {r : Checked} → r ≡ settled_by m need verdict s → r ≡ check_from m need verdict [] ps
   at-end s h c e = e ∙ sym (check-end m need verdict ps i s h c) ∙ k.so_far
 
   module _ (p : ℕ) (here : p ≡ get_or ps i 0) (h : i < length ps) where
-    step : checkFrom m need verdict [] ps
+    step : check_from m need verdict [] ps
         ≡ cond (member p (take i ps)) (AuthorityReuse record { 0 = p })
-        (cond (unknownTo m p) (UnknownAuthority record { 0 = p }) (checkFrom m need verdict (take (i + 1) ps) (drop (i + 1) ps)))
+        (cond (unknown_to m p) (UnknownAuthority record { 0 = p }) (check_from m need verdict (take (i + 1) ps) (drop (i + 1) ps)))
     step = sym k.so_far ∙ rw here (check-step m need verdict ps i h)
 
     -- the signer at i stands at an earlier j as well
-    pub at-repeat : (j : ℕ) → j < i → get_or ps j 0 ≡ p → AuthorityReuse record { 0 = p } ≡ checkFrom m need verdict [] ps
+    pub at-repeat : (j : ℕ) → j < i → get_or ps j 0 ≡ p → AuthorityReuse record { 0 = p } ≡ check_from m need verdict [] ps
     at-repeat j l e = sym (rw (member-take p ps i j l (omega arith) e) at step)
 
-    pub at-unknown : member p (take i ps) ≡ false → unknownTo m p ≡ true → UnknownAuthority record { 0 = p } ≡ checkFrom m need verdict [] ps
+    pub at-unknown : member p (take i ps) ≡ false → unknown_to m p ≡ true → UnknownAuthority record { 0 = p } ≡ check_from m need verdict [] ps
     at-unknown fresh none = sym (rw (fresh, none) at step)
 
-    pub at-known : member p (take i ps) ≡ false → unknownTo m p ≡ false → Walk m need verdict ps (i + 1)
+    pub at-known : member p (take i ps) ≡ false → unknown_to m p ≡ false → Walk m need verdict ps (i + 1)
     at-known fresh some = record { so_far = sym (rw (fresh, some) at step) }
 
-pub known : (m : List ℕ) (p : ℕ) → unknownTo m p ≡ false → Known m p
-unfolding unknownTo
+pub known : (m : List ℕ) (p : ℕ) → unknown_to m p ≡ false → Known m p
+unfolding unknown_to
 known m p e =
-    let t = from-known m p _ (eqb (stakeOf m p) 0) e in
-    record { small = ltb-true p membersMax t.0; stake = eqb-false (stakeOf m p) 0 t.1 }
+    let t = from-known m p _ (eqb (stake_of m p) 0) e in
+    record { small = ltb-true p members_max t.0; stake = eqb-false (stake_of m p) 0 t.1 }
 
 -- ---- the bytes
 
 module _ (f : Form) (m : List ℕ) (need : ℕ) (part : List ℕ) {n : ℕ} (e : n ≡ num_at 2 part (f.at + 1)) where
-  pub part_cut : length part < f.at + 3 + f.stride * n → Cut ≡ checkPart f m need part
-  unfolding checkPart is_whole count_of
+  pub part_cut : length part < f.at + 3 + f.stride * n → Cut ≡ check_part f m need part
+  unfolding check_part is_whole count_of
   part_cut h = rw (← e, lt-leb (f.at + 3 + f.stride * n) (length part) h)
 
   pub part-whole : f.at + 3 + f.stride * n ≤ length part → {verdict : ℕ} → verdict ≡ num_at 1 part f.at → {r : Checked}
-      → r ≡ checkFrom m need (eqb verdict 1) [] (numsAt 2 f.stride n part (f.at + 3)) → r ≡ checkPart f m need part
-  unfolding checkPart is_whole count_of placesIn verdictIn
+      → r ≡ check_from m need (eqb verdict 1) [] (nums_at 2 f.stride n part (f.at + 3)) → r ≡ check_part f m need part
+  unfolding check_part is_whole count_of places_in verdict_in
   part-whole h v g = rw (← e, ← v, le-leb (f.at + 3 + f.stride * n) (length part) h) g

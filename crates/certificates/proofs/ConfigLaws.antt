@@ -15,7 +15,7 @@ use borrow.Author.Tests.{eq-eqb, ne_eqb, eqb-false, lt-ltb, le-ltb, ltb-false}
 use Rattle.certificates.specs.declared.numbers.Stake.{Stake}
 use Rattle.certificates.specs.declared.config.Setup.{Setup}
 use Rattle.certificates.specs.declared.config.Setup.TheVariants.{Bad, Total}
-use Rattle.certificates.specs.Config.{membersMax, totalMax, sum, stakeOf, quorumFrom, quorumOf, limited, setupOf}
+use Rattle.certificates.specs.Config.{members_max, total_max, sum, stake_of, quorum_from, quorum_of, limited, setup_of}
 
 -- ---- sums
 
@@ -28,8 +28,8 @@ pub sum-split : (n : ℕ) (xs : List ℕ) → sum (take n xs) + sum (drop n xs) 
 sum-split n xs = sym (sum-append (take n xs) (drop n xs)) ∙ ap sum (take-append-drop n xs)
 
 -- the largest stake that a member can hold
-abbrev pub stakeMax : ℕ
-stakeMax = 4294967295
+abbrev pub stake_max : ℕ
+stake_max = 4294967295
 
 -- a loop that sums: what the first elements come to, and one more
 pub record Summed (xs : List ℕ) (i total : ℕ) : Type 0 where
@@ -81,25 +81,25 @@ small_all k h small = summed-all (k.so_far small) h
 -- ---- stake
 
 module _ (m : List ℕ) (p : ℕ) where
-  pub stake-at : get_or m p 0 ≡ stakeOf m p
-  unfolding stakeOf
+  pub stake-at : get_or m p 0 ≡ stake_of m p
+  unfolding stake_of
   stake-at = refl
 
-pub stake-none : (m : List ℕ) (p : ℕ) → length m ≤ p → 0 ≡ stakeOf m p
-unfolding stakeOf
+pub stake-none : (m : List ℕ) (p : ℕ) → length m ≤ p → 0 ≡ stake_of m p
+unfolding stake_of
 stake-none [] p h = refl
 stake-none (x ∷ m) zero h = absurd (omega arith)
 stake-none (x ∷ m) (suc p) h = stake-none m p (omega arith)
 
 -- a place with a stake is a member's
-pub stake-member : (m : List ℕ) (p : ℕ) → stakeOf m p ≢ 0 → p < length m
-unfolding stakeOf
+pub stake-member : (m : List ℕ) (p : ℕ) → stake_of m p ≢ 0 → p < length m
+unfolding stake_of
 stake-member [] p h = absurd (h refl)
 stake-member (x ∷ m) zero h = omega arith
 stake-member (x ∷ m) (suc p) h = omega (arith, stake-member m p h)
 
-pub stake-le : (m : List ℕ) (p : ℕ) → stakeOf m p ≤ sum m
-unfolding stakeOf sum
+pub stake-le : (m : List ℕ) (p : ℕ) → stake_of m p ≤ sum m
+unfolding stake_of sum
 stake-le [] p = omega arith
 stake-le (x ∷ m) zero = omega arith
 stake-le (x ∷ m) (suc p) = omega (arith, stake-le m p)
@@ -107,54 +107,54 @@ stake-le (x ∷ m) (suc p) = omega (arith, stake-le m p)
 -- ---- quorum
 
 -- no sum of nothing is a quorum
-pub quorum-pos : (t : ℕ) → 0 < quorumFrom t
-unfolding quorumFrom
+pub quorum-pos : (t : ℕ) → 0 < quorum_from t
+unfolding quorum_from
 quorum-pos t = omega arith
 
 -- all together are one, where there is any stake
-pub quorum-le : (t : ℕ) → 0 < t → quorumFrom t ≤ t
-unfolding quorumFrom
+pub quorum-le : (t : ℕ) → 0 < t → quorum_from t ≤ t
+unfolding quorum_from
 quorum-le t h = omega arith
 
 -- a weight below the quorum is not above the total
-pub below-quorum : (t weight : ℕ) → 0 < t → weight < quorumFrom t → weight ≤ t
-unfolding quorumFrom
+pub below-quorum : (t weight : ℕ) → 0 < t → weight < quorum_from t → weight ≤ t
+unfolding quorum_from
 below-quorum t weight p h = omega arith
 
 -- two quorums have more than a third of the total in common
-pub quorum-overlap : (t a b : ℕ) → quorumFrom t ≤ a → quorumFrom t ≤ b → 4 * t < 3 * (a + b)
-unfolding quorumFrom
+pub quorum-overlap : (t a b : ℕ) → quorum_from t ≤ a → quorum_from t ≤ b → 4 * t < 3 * (a + b)
+unfolding quorum_from
 quorum-overlap t a b h k = omega arith
 
 -- ---- the limits
 
-pub limit-bad : (t : ℕ) → totalMax < t → Bad ≡ limited t
+pub limit-bad : (t : ℕ) → total_max < t → Bad ≡ limited t
 unfolding limited
-limit-bad t h = rw (lt-ltb totalMax t h)
+limit-bad t h = rw (lt-ltb total_max t h)
 
-pub limit-good : (t : ℕ) → t ≤ totalMax → Total record { 0 = t } ≡ limited t
+pub limit-good : (t : ℕ) → t ≤ total_max → Total record { 0 = t } ≡ limited t
 unfolding limited
-limit-good t h = rw (le-ltb totalMax t h)
+limit-good t h = rw (le-ltb total_max t h)
 
 module _ (m : List ℕ) where
-  pub setup-none : length m ≡ 0 → Bad ≡ setupOf m
-  unfolding setupOf
+  pub setup-none : length m ≡ 0 → Bad ≡ setup_of m
+  unfolding setup_of
   setup-none h = rw (eq-eqb (length m) 0 h)
 
-  pub setup-many : (length m ≡ 0 → ⊥) → membersMax < length m → Bad ≡ setupOf m
-  unfolding setupOf
-  setup-many n h = rw (ne_eqb (length m) 0 n, lt-ltb membersMax (length m) h)
+  pub setup-many : (length m ≡ 0 → ⊥) → members_max < length m → Bad ≡ setup_of m
+  unfolding setup_of
+  setup-many n h = rw (ne_eqb (length m) 0 n, lt-ltb members_max (length m) h)
 
-  pub setup-some : (length m ≡ 0 → ⊥) → length m ≤ membersMax → {t : ℕ} {r : Setup} → t ≡ sum m → r ≡ limited t → r ≡ setupOf m
-  unfolding setupOf
-  setup-some n h e f = rw (ne_eqb (length m) 0 n, le-ltb membersMax (length m) h, ← e) f
+  pub setup-some : (length m ≡ 0 → ⊥) → length m ≤ members_max → {t : ℕ} {r : Setup} → t ≡ sum m → r ≡ limited t → r ≡ setup_of m
+  unfolding setup_of
+  setup-some n h e f = rw (ne_eqb (length m) 0 n, le-ltb members_max (length m) h, ← e) f
 
 -- what a setup within the limits is known for
 pub record Within (m : List ℕ) (t : ℕ) : Type 0 where
   pub total : t ≡ sum m
-  pub small : t ≤ totalMax
+  pub small : t ≤ total_max
   pub some : 0 < length m
-  pub few : length m ≤ membersMax
+  pub few : length m ≤ members_max
 
 from-limits : (none many high : Bool) (n : ℕ) (t : Stake) → cond none Bad (cond many Bad (cond high Bad (Total record { 0 = n }))) ≡ Total t
     → (none ≡ false) × (many ≡ false) × (high ≡ false) × (n ≡ t.0)
@@ -163,20 +163,20 @@ from-limits false true high n t e = absurd (let z : ◌≡◌ {A = ℕ} 0 1 = cc
 from-limits false false true n t e = absurd (let z : ◌≡◌ {A = ℕ} 0 1 = cc in omega arith)
 from-limits false false false n t e = (refl, refl, refl, cc)
 
-pub within : (m : List ℕ) (t : Stake) → setupOf m ≡ Total t → Within m t.0
-unfolding setupOf limited
+pub within : (m : List ℕ) (t : Stake) → setup_of m ≡ Total t → Within m t.0
+unfolding setup_of limited
 within m t e =
-    let k = from-limits (eqb (length m) 0) (ltb membersMax (length m)) (ltb totalMax (sum m)) (sum m) t e in
+    let k = from-limits (eqb (length m) 0) (ltb members_max (length m)) (ltb total_max (sum m)) (sum m) t e in
     let n = eqb-false (length m) 0 k.0 in
-    let s = ltb-false totalMax (sum m) k.2 in
+    let s = ltb-false total_max (sum m) k.2 in
     record {
       total = sym k.3;
       small = omega (arith, k.3);
       some = omega arith;
-      few = ltb-false membersMax (length m) k.1;
+      few = ltb-false members_max (length m) k.1;
     }
 
 -- the quorum, from the total
-pub quorum-total : (m : List ℕ) {t q : ℕ} → t ≡ sum m → q ≡ quorumFrom t → q ≡ quorumOf m
-unfolding quorumOf
-quorum-total m e f = f ∙ ap quorumFrom e
+pub quorum-total : (m : List ℕ) {t q : ℕ} → t ≡ sum m → q ≡ quorum_from t → q ≡ quorum_of m
+unfolding quorum_of
+quorum-total m e f = f ∙ ap quorum_from e

@@ -6,24 +6,24 @@ use native.Mathlib.Nat.{mod-lt}
 use native.Mathlib.Omega.{arith}
 use lib.ListN.{length}
 use borrow.Author.Tests.{eq-eqb, ne_eqb, lt-ltb, le-ltb}
-use Rattle.certificates.specs.Config.{membersMax}
-use Rattle.certificates.specs.Leader.{leaderOf}
+use Rattle.certificates.specs.Config.{members_max}
+use Rattle.certificates.specs.Leader.{leader_of}
 
 module _ (m : List ℕ) (r : ℕ) where
-  pub leader-none : length m ≡ 0 → 0 ≡ leaderOf m r
-  unfolding leaderOf
+  pub leader-none : length m ≡ 0 → 0 ≡ leader_of m r
+  unfolding leader_of
   leader-none h = rw (eq-eqb (length m) 0 h)
 
-  pub leader-many : (length m ≡ 0 → ⊥) → membersMax < length m → 0 ≡ leaderOf m r
-  unfolding leaderOf
-  leader-many n h = rw (ne_eqb (length m) 0 n, lt-ltb membersMax (length m) h)
+  pub leader-many : (length m ≡ 0 → ⊥) → members_max < length m → 0 ≡ leader_of m r
+  unfolding leader_of
+  leader-many n h = rw (ne_eqb (length m) 0 n, lt-ltb members_max (length m) h)
 
-  pub leader-turn : (length m ≡ 0 → ⊥) → length m ≤ membersMax → r % length m ≡ leaderOf m r
-  unfolding leaderOf
-  leader-turn n h = rw (ne_eqb (length m) 0 n, le-ltb membersMax (length m) h)
+  pub leader-turn : (length m ≡ 0 → ⊥) → length m ≤ members_max → r % length m ≡ leader_of m r
+  unfolding leader_of
+  leader-turn n h = rw (ne_eqb (length m) 0 n, le-ltb members_max (length m) h)
 
   -- the leader is a member
-  pub leader-lt : 0 < length m → length m ≤ membersMax → leaderOf m r < length m
+  pub leader-lt : 0 < length m → length m ≤ members_max → leader_of m r < length m
   leader-lt p h =
       let n : length m ≡ 0 → ⊥ = λ e. omega arith in
       rw (← leader-turn n h) (mod-lt r {m = length m} p)

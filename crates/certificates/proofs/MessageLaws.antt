@@ -1,4 +1,4 @@
--- Laws of `isGenesis`, of an author's check and of the QC inside a block or a timeout: one for each way out of their tests, and what a good answer
+-- Laws of `is_genesis`, of an author's check and of the QC inside a block or a timeout: one for each way out of their tests, and what a good answer
 -- says. Assumes nothing.
 use Prim.Native.Nat.{ℕ, ◌≤◌, ◌<◌}
 use mathlib.Core.Path.{◌≡◌, refl, sym, ◌∙◌}
@@ -16,57 +16,57 @@ use Rattle.certificates.specs.declared.messages.Checked.{Checked}
 use Rattle.certificates.specs.declared.messages.Checked.TheVariants.{Accepted}
 use Rattle.certificates.specs.declared.messages.Authored.{Authored}
 use Rattle.certificates.specs.declared.messages.Authored.TheVariants.{Valid, UnknownAuthority, InvalidSignature}
-use Rattle.certificates.specs.Numbers.{zeroHash, sameHash}
-use Rattle.certificates.specs.Num.{num_at, hashAt}
-use Rattle.certificates.specs.Config.{stakeOf}
-use Rattle.certificates.specs.Signers.{noSigners}
-use Rattle.certificates.specs.Messages.{isGenesis, qcForm, qcCheck, equalsGenesis, embeddedCheck, authorCheck}
+use Rattle.certificates.specs.Numbers.{zero_hash, same_hash}
+use Rattle.certificates.specs.Num.{num_at, hash_at}
+use Rattle.certificates.specs.Config.{stake_of}
+use Rattle.certificates.specs.Signers.{no_signers}
+use Rattle.certificates.specs.Messages.{is_genesis, qc_form, qc_check, equals_genesis, embedded_check, author_check}
 use Rattle.certificates.proofs.ConfigLaws.{stake-member}
 
-module _ (h : Hash) (round : ℕ) {t : Bool} (e : t ≡ sameHash h zeroHash) where
-  pub genesis-round : t ≡ true → eqb round 0 ≡ isGenesis h round
-  unfolding isGenesis
+module _ (h : Hash) (round : ℕ) {t : Bool} (e : t ≡ same_hash h zero_hash) where
+  pub genesis-round : t ≡ true → eqb round 0 ≡ is_genesis h round
+  unfolding is_genesis
   genesis-round y = rw (← e, y)
 
-  pub genesis-other : t ≡ false → false ≡ isGenesis h round
-  unfolding isGenesis
+  pub genesis-other : t ≡ false → false ≡ is_genesis h round
+  unfolding is_genesis
   genesis-other n = rw (← e, n)
 
 -- ---- the QC inside a block or a timeout
 
 module _ (part : List ℕ) where
-  pub bytes-short : length part < qcForm.at → false ≡ equalsGenesis part
-  unfolding equalsGenesis
-  bytes-short l = rw (lt-leb qcForm.at (length part) l)
+  pub bytes-short : length part < qc_form.at → false ≡ equals_genesis part
+  unfolding equals_genesis
+  bytes-short l = rw (lt-leb qc_form.at (length part) l)
 
-  pub bytes-genesis : qcForm.at ≤ length part → {h : Hash} {round : ℕ} {t : Bool} → h ≡ hashAt part 0 → round ≡ num_at 8 part 32 → t ≡ isGenesis h round
-      → t ≡ equalsGenesis part
-  unfolding equalsGenesis
-  bytes-genesis l e f g = rw (le-leb qcForm.at (length part) l, ← e, ← f) g
+  pub bytes-genesis : qc_form.at ≤ length part → {h : Hash} {round : ℕ} {t : Bool} → h ≡ hash_at part 0 → round ≡ num_at 8 part 32 → t ≡ is_genesis h round
+      → t ≡ equals_genesis part
+  unfolding equals_genesis
+  bytes-genesis l e f g = rw (le-leb qc_form.at (length part) l, ← e, ← f) g
 
-module _ (m : List ℕ) (need : ℕ) (part : List ℕ) {t : Bool} (e : t ≡ equalsGenesis part) where
-  pub embedded-genesis : t ≡ true → Accepted noSigners ≡ embeddedCheck m need part
-  unfolding embeddedCheck
+module _ (m : List ℕ) (need : ℕ) (part : List ℕ) {t : Bool} (e : t ≡ equals_genesis part) where
+  pub embedded-genesis : t ≡ true → Accepted no_signers ≡ embedded_check m need part
+  unfolding embedded_check
   embedded-genesis y = rw (← e, y)
 
-  pub embedded-other : {r : Checked} → t ≡ false → r ≡ qcCheck m need part → r ≡ embeddedCheck m need part
-  unfolding embeddedCheck
+  pub embedded-other : {r : Checked} → t ≡ false → r ≡ qc_check m need part → r ≡ embedded_check m need part
+  unfolding embedded_check
   embedded-other y p = rw (← e, y) p
 
 -- ---- an author
 
 module _ (m : List ℕ) (p verdict : ℕ) where
-  module _ {s : Stake} (e : s.0 ≡ stakeOf m p) where
-    pub author-unknown : s.0 ≡ 0 → UnknownAuthority record { 0 = p } ≡ authorCheck m p verdict
-    unfolding authorCheck
+  module _ {s : Stake} (e : s.0 ≡ stake_of m p) where
+    pub author-unknown : s.0 ≡ 0 → UnknownAuthority record { 0 = p } ≡ author_check m p verdict
+    unfolding author_check
     author-unknown h = rw (← e, eq-eqb s.0 0 h)
 
-    pub author-invalid : (s.0 ≡ 0 → ⊥) → verdict ≡ 0 → InvalidSignature ≡ authorCheck m p verdict
-    unfolding authorCheck
+    pub author-invalid : (s.0 ≡ 0 → ⊥) → verdict ≡ 0 → InvalidSignature ≡ author_check m p verdict
+    unfolding author_check
     author-invalid n h = rw (← e, ne_eqb s.0 0 n, eq-eqb verdict 0 h)
 
-    pub author-valid : (s.0 ≡ 0 → ⊥) → (verdict ≡ 0 → ⊥) → Valid s ≡ authorCheck m p verdict
-    unfolding authorCheck
+    pub author-valid : (s.0 ≡ 0 → ⊥) → (verdict ≡ 0 → ⊥) → Valid s ≡ author_check m p verdict
+    unfolding author_check
     author-valid n h = rw (← e, ne_eqb s.0 0 n, ne_eqb verdict 0 h)
 
   from-author : (none bad : Bool) (a : Place) (x : ℕ) (s : Stake) → cond none (UnknownAuthority a) (cond bad InvalidSignature (Valid record { 0 = x })) ≡ Valid s
@@ -77,16 +77,16 @@ module _ (m : List ℕ) (p verdict : ℕ) where
 
 -- what a valid author is known for
 pub record Author (m : List ℕ) (p verdict s : ℕ) : Type 0 where
-  pub stake : s ≡ stakeOf m p
+  pub stake : s ≡ stake_of m p
   pub staked : s ≢ 0
   pub member : p < length m
   pub signed : verdict ≢ 0
 
-pub author : (m : List ℕ) (p verdict : ℕ) (s : Stake) → authorCheck m p verdict ≡ Valid s → Author m p verdict s.0
-unfolding authorCheck
+pub author : (m : List ℕ) (p verdict : ℕ) (s : Stake) → author_check m p verdict ≡ Valid s → Author m p verdict s.0
+unfolding author_check
 author m p verdict s e =
-    let t = from-author m p verdict (eqb (stakeOf m p) 0) (eqb verdict 0) record { 0 = p } (stakeOf m p) s e in
-    let some = eqb-false (stakeOf m p) 0 t.0 in
+    let t = from-author m p verdict (eqb (stake_of m p) 0) (eqb verdict 0) record { 0 = p } (stake_of m p) s e in
+    let some = eqb-false (stake_of m p) 0 t.0 in
     record {
       stake = sym t.2;
       staked = λ z. some (t.2 ∙ z);

@@ -9,14 +9,14 @@ use native.Mathlib.Omega.{arith}
 use borrow.Author.Tests.{eqb-true, eq-eqb}
 use lib.Dec.{eqb}
 use Rattle.certificates.specs.declared.numbers.Hash.{Hash}
-use Rattle.certificates.specs.Numbers.{zeroHash, sameHash}
-use Rattle.certificates.specs.Messages.{isGenesis}
+use Rattle.certificates.specs.Numbers.{zero_hash, same_hash}
+use Rattle.certificates.specs.Messages.{is_genesis}
 
 pub both : (a b : Bool) → cond a b false ≡ true → (a ≡ true) × (b ≡ true)
 both true b e = (refl, e)
 both false b e = absurd (let z : ◌≡◌ {A = ℕ} 0 1 = cc in omega arith)
 
-pub hash-same : (x y : Hash) → sameHash x y ≡ true → x ≡ y
+pub hash-same : (x y : Hash) → same_hash x y ≡ true → x ≡ y
 hash-same x y e =
     let a = both (eqb x.a y.a) _ e in
     let b = both (eqb x.b y.b) _ a.1 in
@@ -25,13 +25,13 @@ hash-same x y e =
     = rw (eqb-true x.a y.a a.0, eqb-true x.b y.b b.0, eqb-true x.c y.c c.0, eqb-true x.d y.d c.1) in
     r
 
-pub hash-self : (h : Hash) → sameHash h h ≡ true
+pub hash-self : (h : Hash) → same_hash h h ≡ true
 hash-self h = rw (eq-eqb h.a h.a refl, eq-eqb h.b h.b refl, eq-eqb h.c h.c refl, eq-eqb h.d h.d refl) refl
 
-pub genesis-is : isGenesis zeroHash 0 ≡ true
-unfolding isGenesis
+pub genesis-is : is_genesis zero_hash 0 ≡ true
+unfolding is_genesis
 genesis-is = refl
 
-pub genesis-zero : (h : Hash) (q : ℕ) → isGenesis h q ≡ true → q ≡ 0
-unfolding isGenesis
-genesis-zero h q e = eqb-true q 0 (both (sameHash h zeroHash) (eqb q 0) e).1
+pub genesis-zero : (h : Hash) (q : ℕ) → is_genesis h q ≡ true → q ≡ 0
+unfolding is_genesis
+genesis-zero h q e = eqb-true q 0 (both (same_hash h zero_hash) (eqb q 0) e).1

@@ -12,41 +12,41 @@ use borrow.Author.Tests.{lt-ltb, le-ltb, ltb-true, ltb-false, leb-true, eqb-true
 use Rattle.certificates.specs.declared.numbers.Stake.{Stake}
 use Rattle.certificates.specs.declared.config.Setup.{Setup}
 use Rattle.certificates.specs.declared.config.Setup.TheVariants.{Bad, Total}
-use Rattle.certificates.specs.Num.{le, num_at, numsAt}
-use Rattle.certificates.specs.Config.{membersMax, totalMax, sum, stakeOf, limited, setupOf}
-use Rattle.certificates.specs.Start.{membersAt, memberLen, keyLen, wordLen, sameWord, memberCount, ownPlace, stakesIn, key_at, keysFrom, keysIn, below, ascending, setupAt, padded, loadedStakes}
-use Rattle.certificates.proofs.Bytes.{single, joined, num-within, length-nums, nums_at}
+use Rattle.certificates.specs.Num.{le, num_at, nums_at}
+use Rattle.certificates.specs.Config.{members_max, total_max, sum, stake_of, limited, setup_of}
+use Rattle.certificates.specs.Start.{members_at, member_len, key_len, word_len, same_word, member_count, own_place, stakes_in, key_at, keys_from, keys_in, below, ascending, setup_at, padded, loaded_stakes}
+use Rattle.certificates.proofs.Bytes.{single, joined, num-within, length-nums, nums_at_lem}
 use Rattle.certificates.proofs.ConfigLaws.{Within, within, stake-none, setup-many, setup-some}
 
 module _ (body : List ℕ) where
-  pub length-stakes : length (stakesIn body) ≡ memberCount body
-  unfolding stakesIn
-  length-stakes = length-nums 4 memberLen (memberCount body) body (membersAt + keyLen)
+  pub length-stakes : length (stakes_in body) ≡ member_count body
+  unfolding stakes_in
+  length-stakes = length-nums 4 member_len (member_count body) body (members_at + key_len)
 
   -- the stake of a member that the body names, and of another
-  pub stakes-at : (i : ℕ) {n x : ℕ} → n ≡ memberCount body → i < n → x ≡ num_at 4 body (membersAt + keyLen + memberLen * i) → x ≡ stakeOf (stakesIn body) i
-  unfolding stakesIn stakeOf
-  stakes-at i e h f = f ∙ sym (nums_at 4 memberLen (memberCount body) body (membersAt + keyLen) i (omega (arith, e)))
+  pub stakes-at : (i : ℕ) {n x : ℕ} → n ≡ member_count body → i < n → x ≡ num_at 4 body (members_at + key_len + member_len * i) → x ≡ stake_of (stakes_in body) i
+  unfolding stakes_in stake_of
+  stakes-at i e h f = f ∙ sym (nums_at_lem 4 member_len (member_count body) body (members_at + key_len) i (omega (arith, e)))
 
-  pub stakes-past : (i : ℕ) {n : ℕ} → n ≡ memberCount body → n ≤ i → 0 ≡ stakeOf (stakesIn body) i
-  stakes-past i e h = stake-none (stakesIn body) i (omega (arith, e, length-stakes))
+  pub stakes-past : (i : ℕ) {n : ℕ} → n ≡ member_count body → n ≤ i → 0 ≡ stake_of (stakes_in body) i
+  stakes-past i e h = stake-none (stakes_in body) i (omega (arith, e, length-stakes))
 
 -- ---- keys
 
 -- two keys whose first bytes are passed: what is left of them decides as the whole
 pub record Compared (body : List ℕ) (a b left x y : ℕ) : Type 0 where
-  pub rest : below (numsAt 1 1 left body x) (numsAt 1 1 left body y) ≡ below (key_at body a) (key_at body b)
+  pub rest : below (nums_at 1 1 left body x) (nums_at 1 1 left body y) ≡ below (key_at body a) (key_at body b)
 
-pub compared-none : (body : List ℕ) (a b : ℕ) → Compared body a b keyLen a b
+pub compared-none : (body : List ℕ) (a b : ℕ) → Compared body a b key_len a b
 unfolding key_at
 compared-none body a b = record { rest = refl }
 
 module _ {body : List ℕ} {a b left x y : ℕ} (k : Compared body a b left x y) where
   compared-step : 0 < left
       → cond (ltb (num_at 1 body x) (num_at 1 body y)) true
-      (cond (ltb (num_at 1 body y) (num_at 1 body x)) false (below (numsAt 1 1 (left - 1) body (x + 1)) (numsAt 1 1 (left - 1) body (y + 1))))
+      (cond (ltb (num_at 1 body y) (num_at 1 body x)) false (below (nums_at 1 1 (left - 1) body (x + 1)) (nums_at 1 1 (left - 1) body (y + 1))))
       ≡ below (key_at body a) (key_at body b)
-  unfolding below numsAt
+  unfolding below nums_at
   compared-step h =
       let e : left ≡ suc (left - 1) = omega arith in
       rw e at k.rest
@@ -61,13 +61,13 @@ module _ {body : List ℕ} {a b left x y : ℕ} (k : Compared body a b left x y)
   compared_same {u} {v} h e f n l = record { rest = rw (← e, ← f, le-ltb u v n, le-ltb v u l) at (compared-step h) }
 
   pub compared-all : left ≡ 0 → false ≡ below (key_at body a) (key_at body b)
-  unfolding below numsAt
+  unfolding below nums_at
   compared-all h = rw h at k.rest
 
 -- a word that is passed
 pub record PassedWord (body : List ℕ) (a b left x y : ℕ) : Type 0 where
-  pub long : wordLen ≤ left
-  pub next : Compared body a b (left - wordLen) (x + wordLen) (y + wordLen)
+  pub long : word_len ≤ left
+  pub next : Compared body a b (left - word_len) (x + word_len) (y + word_len)
 
 from-word : (s p q : Bool) (m n : ℕ) → true ≡ cond s false (cond p (cond q (eqb m n) false) false) → (s ≡ false) × (p ≡ true) × (q ≡ true) × (m ≡ n)
 from-word true p q m n e = absurd (let z : ◌≡◌ {A = ℕ} 0 1 = cc in omega arith)
@@ -106,104 +106,104 @@ module _ (body : List ℕ) (bytes : (i : ℕ) → get_or body i 0 < 256) where
       let q : y + suc w ≡ y + 1 + w = omega arith in
       rw (d, p, q) all
 
-  pub compared-word : {a b left x y : ℕ} {t : Bool} → Compared body a b left x y → t ≡ sameWord body x y left → t ≡ true → PassedWord body a b left x y
-  unfolding sameWord
+  pub compared-word : {a b left x y : ℕ} {t : Bool} → Compared body a b left x y → t ≡ same_word body x y left → t ≡ true → PassedWord body a b left x y
+  unfolding same_word
   compared-word {a} {b} {left} {x} {y} k e t =
-      let g = from-word (ltb left wordLen) (leb (x + wordLen) (length body)) (leb (y + wordLen) (length body)) (num_at wordLen body x) (num_at wordLen body y) (sym t ∙ e) in
-      let long : wordLen ≤ left = ltb-false left wordLen g.0 in
-      let hx : x + wordLen ≤ length body = leb-true _ _ g.1 in
-      let hy : y + wordLen ≤ length body = leb-true _ _ g.2 in
-      let u : le (take wordLen (drop x body)) ≡ num_at wordLen body x = num-within body x wordLen refl hx in
-      let v : le (take wordLen (drop y body)) ≡ num_at wordLen body y = num-within body y wordLen refl hy in
-      record { long = long; next = compared-bytes wordLen k long hx hy (u ∙ g.3 ∙ sym v) }
+      let g = from-word (ltb left word_len) (leb (x + word_len) (length body)) (leb (y + word_len) (length body)) (num_at word_len body x) (num_at word_len body y) (sym t ∙ e) in
+      let long : word_len ≤ left = ltb-false left word_len g.0 in
+      let hx : x + word_len ≤ length body = leb-true _ _ g.1 in
+      let hy : y + word_len ≤ length body = leb-true _ _ g.2 in
+      let u : le (take word_len (drop x body)) ≡ num_at word_len body x = num-within body x word_len refl hx in
+      let v : le (take word_len (drop y body)) ≡ num_at word_len body y = num-within body y word_len refl hy in
+      record { long = long; next = compared-bytes word_len k long hx hy (u ∙ g.3 ∙ sym v) }
 
 -- the ways out of a look at two words
 module _ (body : List ℕ) (x y left : ℕ) where
-  pub word-short : left < wordLen → false ≡ sameWord body x y left
-  unfolding sameWord
-  word-short h = rw (lt-ltb left wordLen h)
+  pub word-short : left < word_len → false ≡ same_word body x y left
+  unfolding same_word
+  word-short h = rw (lt-ltb left word_len h)
 
-  pub word_read : {t u : Bool} {m n : ℕ} → wordLen ≤ left → t ≡ leb (x + wordLen) (length body) → t ≡ true → u ≡ leb (y + wordLen) (length body) → u ≡ true
-      → m ≡ num_at wordLen body x → n ≡ num_at wordLen body y → eqb m n ≡ sameWord body x y left
-  unfolding sameWord
-  word_read h e t f u g k = rw (le-ltb left wordLen h, ← e, t, ← f, u, g, k)
+  pub word_read : {t u : Bool} {m n : ℕ} → word_len ≤ left → t ≡ leb (x + word_len) (length body) → t ≡ true → u ≡ leb (y + word_len) (length body) → u ≡ true
+      → m ≡ num_at word_len body x → n ≡ num_at word_len body y → eqb m n ≡ same_word body x y left
+  unfolding same_word
+  word_read h e t f u g k = rw (le-ltb left word_len h, ← e, t, ← f, u, g, k)
 
-  pub word-past-x : {t : Bool} → wordLen ≤ left → t ≡ leb (x + wordLen) (length body) → t ≡ false → false ≡ sameWord body x y left
-  unfolding sameWord
-  word-past-x h e t = rw (le-ltb left wordLen h, ← e, t)
+  pub word-past-x : {t : Bool} → word_len ≤ left → t ≡ leb (x + word_len) (length body) → t ≡ false → false ≡ same_word body x y left
+  unfolding same_word
+  word-past-x h e t = rw (le-ltb left word_len h, ← e, t)
 
-  pub word-past-y : {t u : Bool} → wordLen ≤ left → t ≡ leb (x + wordLen) (length body) → t ≡ true → u ≡ leb (y + wordLen) (length body) → u ≡ false
-      → false ≡ sameWord body x y left
-  unfolding sameWord
-  word-past-y h e t f u = rw (le-ltb left wordLen h, ← e, t, ← f, u)
+  pub word-past-y : {t u : Bool} → word_len ≤ left → t ≡ leb (x + word_len) (length body) → t ≡ true → u ≡ leb (y + word_len) (length body) → u ≡ false
+      → false ≡ same_word body x y left
+  unfolding same_word
+  word-past-y h e t f u = rw (le-ltb left word_len h, ← e, t, ← f, u)
 
 -- keys of which the first are passed: what is left of them decides as the whole
 pub record Ascended (body : List ℕ) (n left at : ℕ) : Type 0 where
-  pub rest : ascending (keysFrom left body at) ≡ ascending (keysFrom n body membersAt)
+  pub rest : ascending (keys_from left body at) ≡ ascending (keys_from n body members_at)
 
-pub ascended-none : (body : List ℕ) (n : ℕ) → Ascended body n n membersAt
+pub ascended-none : (body : List ℕ) (n : ℕ) → Ascended body n n members_at
 ascended-none body n = record { rest = refl }
 
 module _ {body : List ℕ} {n left at : ℕ} (k : Ascended body n left at) where
-  ascended-step : 1 < left → cond (below (key_at body at) (key_at body (at + memberLen))) (ascending (keysFrom (left - 1) body (at + memberLen))) false
-      ≡ ascending (keysFrom n body membersAt)
-  unfolding ascending keysFrom
+  ascended-step : 1 < left → cond (below (key_at body at) (key_at body (at + member_len))) (ascending (keys_from (left - 1) body (at + member_len))) false
+      ≡ ascending (keys_from n body members_at)
+  unfolding ascending keys_from
   ascended-step h =
       let e : left ≡ suc (suc (left - 2)) = omega arith in
       let f : left - 1 ≡ suc (left - 2) = omega arith in
       rw f (rw e at k.rest)
 
-  pub ascended-more : {t : Bool} → 1 < left → t ≡ below (key_at body at) (key_at body (at + memberLen)) → t ≡ true → Ascended body n (left - 1) (at + memberLen)
+  pub ascended-more : {t : Bool} → 1 < left → t ≡ below (key_at body at) (key_at body (at + member_len)) → t ≡ true → Ascended body n (left - 1) (at + member_len)
   ascended-more h e y = record { rest = rw (← e, y) at (ascended-step h) }
 
-  pub ascended-not : {t : Bool} → 1 < left → t ≡ below (key_at body at) (key_at body (at + memberLen)) → t ≡ false → false ≡ ascending (keysFrom n body membersAt)
+  pub ascended-not : {t : Bool} → 1 < left → t ≡ below (key_at body at) (key_at body (at + member_len)) → t ≡ false → false ≡ ascending (keys_from n body members_at)
   ascended-not h e y = rw (← e, y) at (ascended-step h)
 
-  pub ascended-all : left ≤ 1 → true ≡ ascending (keysFrom n body membersAt)
-  unfolding ascending keysFrom
+  pub ascended-all : left ≤ 1 → true ≡ ascending (keys_from n body members_at)
+  unfolding ascending keys_from
   ascended-all h = few left h k.rest
     where
-      few : (j : ℕ) → j ≤ 1 → ascending (keysFrom j body at) ≡ ascending (keysFrom n body membersAt) → true ≡ ascending (keysFrom n body membersAt)
+      few : (j : ℕ) → j ≤ 1 → ascending (keys_from j body at) ≡ ascending (keys_from n body members_at) → true ≡ ascending (keys_from n body members_at)
       few zero l e = e
       few (suc zero) l e = e
       few (suc (suc j)) l e = absurd (omega arith)
 
 -- ---- the setup
 
-module _ (body : List ℕ) {n own : ℕ} (e : n ≡ memberCount body) (f : own ≡ ownPlace body) where
-  pub start-own : n ≤ own → Bad ≡ setupAt body
-  unfolding setupAt
-  start-own h = no_own (ascending (keysIn body))
+module _ (body : List ℕ) {n own : ℕ} (e : n ≡ member_count body) (f : own ≡ own_place body) where
+  pub start-own : n ≤ own → Bad ≡ setup_at body
+  unfolding setup_at
+  start-own h = no_own (ascending (keys_in body))
     where
-      no_own : (b : Bool) → Bad ≡ cond b (cond (ltb (ownPlace body) (memberCount body)) (setupOf (stakesIn body)) Bad) Bad
+      no_own : (b : Bool) → Bad ≡ cond b (cond (ltb (own_place body) (member_count body)) (setup_of (stakes_in body)) Bad) Bad
       no_own true = rw (← e, ← f, le-ltb own n h)
       no_own false = refl
 
-  pub start-many : own < n → membersMax < n → Bad ≡ setupAt body
-  unfolding setupAt
-  start-many l h = many (ascending (keysIn body))
+  pub start-many : own < n → members_max < n → Bad ≡ setup_at body
+  unfolding setup_at
+  start-many l h = many (ascending (keys_in body))
     where
-      bad : Bad ≡ setupOf (stakesIn body)
-      bad = setup-many (stakesIn body) (λ z. omega (arith, length-stakes body)) (omega (arith, length-stakes body))
+      bad : Bad ≡ setup_of (stakes_in body)
+      bad = setup-many (stakes_in body) (λ z. omega (arith, length-stakes body)) (omega (arith, length-stakes body))
 
-      many : (b : Bool) → Bad ≡ cond b (cond (ltb (ownPlace body) (memberCount body)) (setupOf (stakesIn body)) Bad) Bad
+      many : (b : Bool) → Bad ≡ cond b (cond (ltb (own_place body) (member_count body)) (setup_of (stakes_in body)) Bad) Bad
       many true = rw (← e, ← f, lt-ltb own n l) bad
       many false = refl
 
-  module _ {t : Bool} (g : t ≡ ascending (keysFrom n body membersAt)) where
-    keys : t ≡ ascending (keysIn body)
-    unfolding keysIn
+  module _ {t : Bool} (g : t ≡ ascending (keys_from n body members_at)) where
+    keys : t ≡ ascending (keys_in body)
+    unfolding keys_in
     keys = rw (← e) g
 
-    pub start-keys : t ≡ false → Bad ≡ setupAt body
-    unfolding setupAt
+    pub start-keys : t ≡ false → Bad ≡ setup_at body
+    unfolding setup_at
     start-keys y = rw (← keys, y)
 
-    pub start-good : t ≡ true → own < n → n ≤ membersMax → {total : ℕ} {r : Setup} → total ≡ sum (stakesIn body) → r ≡ limited total → r ≡ setupAt body
-    unfolding setupAt
+    pub start-good : t ≡ true → own < n → n ≤ members_max → {total : ℕ} {r : Setup} → total ≡ sum (stakes_in body) → r ≡ limited total → r ≡ setup_at body
+    unfolding setup_at
     start-good y l h p q =
         rw (← keys, y) (rw (← f, ← e, lt-ltb own n l)
-        (setup-some (stakesIn body) (λ z. omega (arith, length-stakes body)) (omega (arith, length-stakes body)) p q))
+        (setup-some (stakes_in body) (λ z. omega (arith, length-stakes body)) (omega (arith, length-stakes body)) p q))
 
 -- ---- what a good setup is known for
 
@@ -213,20 +213,20 @@ from-tests true false r t e = absurd (let z : ◌≡◌ {A = ℕ} 0 1 = cc in om
 from-tests false own r t e = absurd (let z : ◌≡◌ {A = ℕ} 0 1 = cc in omega arith)
 
 pub record Started (body : List ℕ) (t : Stake) : Type 0 where
-  pub some : 0 < memberCount body
-  pub few : memberCount body ≤ membersMax
-  pub own : ownPlace body < memberCount body
-  pub members : setupOf (stakesIn body) ≡ Total t
+  pub some : 0 < member_count body
+  pub few : member_count body ≤ members_max
+  pub own : own_place body < member_count body
+  pub members : setup_of (stakes_in body) ≡ Total t
 
-pub started : (body : List ℕ) (t : Stake) → setupAt body ≡ Total t → Started body t
-unfolding setupAt
+pub started : (body : List ℕ) (t : Stake) → setup_at body ≡ Total t → Started body t
+unfolding setup_at
 started body t e =
-    let k = from-tests (ascending (keysIn body)) (ltb (ownPlace body) (memberCount body)) (setupOf (stakesIn body)) t e in
-    let w = within (stakesIn body) t k.1 in
+    let k = from-tests (ascending (keys_in body)) (ltb (own_place body) (member_count body)) (setup_of (stakes_in body)) t e in
+    let w = within (stakes_in body) t k.1 in
     record {
       some = omega (arith, length-stakes body);
       few = omega (arith, length-stakes body);
-      own = ltb-true (ownPlace body) (memberCount body) k.0;
+      own = ltb-true (own_place body) (member_count body) k.0;
       members = k.1;
     }
 
@@ -253,43 +253,43 @@ take-padded zero (x ∷ xs) h = absurd (omega arith)
 take-padded (suc n) (x ∷ xs) h = ap (λ (l : List ℕ). x ∷ l) (take-padded n xs (omega arith))
 
 module _ (n : ℕ) (body : List ℕ) where
-  pub length-loaded : length (loadedStakes n body) ≡ n
-  unfolding loadedStakes
-  length-loaded = length-padded n (stakesIn body)
+  pub length-loaded : length (loaded_stakes n body) ≡ n
+  unfolding loaded_stakes
+  length-loaded = length-padded n (stakes_in body)
 
-  pub loaded_at : (i : ℕ) → i < n → get_or (loadedStakes n body) i 0 ≡ stakeOf (stakesIn body) i
-  unfolding loadedStakes stakeOf
-  loaded_at i h = padded-at n (stakesIn body) i h
+  pub loaded_at : (i : ℕ) → i < n → get_or (loaded_stakes n body) i 0 ≡ stake_of (stakes_in body) i
+  unfolding loaded_stakes stake_of
+  loaded_at i h = padded-at n (stakes_in body) i h
 
   -- the members of the body are the first of what was loaded
-  pub loaded-members : memberCount body ≤ n → take (memberCount body) (loadedStakes n body) ≡ stakesIn body
-  unfolding loadedStakes
-  loaded-members h = rw (← length-stakes body) (take-padded n (stakesIn body) (omega (arith, length-stakes body)))
+  pub loaded-members : member_count body ≤ n → take (member_count body) (loaded_stakes n body) ≡ stakes_in body
+  unfolding loaded_stakes
+  loaded-members h = rw (← length-stakes body) (take-padded n (stakes_in body) (omega (arith, length-stakes body)))
 
 -- the committee that was loaded keeps the limits, as the body did
-pub loaded-setup : (n : ℕ) (body : List ℕ) (t : Stake) → membersMax ≤ n → setupAt body ≡ Total t → setupOf (take (memberCount body) (loadedStakes n body)) ≡ Total t
+pub loaded-setup : (n : ℕ) (body : List ℕ) (t : Stake) → members_max ≤ n → setup_at body ≡ Total t → setup_of (take (member_count body) (loaded_stakes n body)) ≡ Total t
 loaded-setup n body t h e =
     let s = started body t e in
-    let few : memberCount body ≤ n = omega arith in
+    let few : member_count body ≤ n = omega arith in
     rw (loaded-members n body few) s.members
 
 -- a loop that loads: the first places hold what they shall
 pub record Loaded (n : ℕ) (body : List ℕ) (i : ℕ) (stakes : List ℕ) : Type 0 where
   pub size : length stakes ≡ n
-  pub first : take i stakes ≡ take i (loadedStakes n body)
+  pub first : take i stakes ≡ take i (loaded_stakes n body)
 
 pub loaded-none : (body stakes : List ℕ) → Loaded (length stakes) body 0 stakes
 loaded-none body stakes = record { size = refl; first = refl }
 
 module _ {n : ℕ} {body : List ℕ} {i : ℕ} {stakes : List ℕ} (k : Loaded n body i stakes) where
-  pub loaded-more : (x : ℕ) → i < length stakes → x ≡ stakeOf (stakesIn body) i → Loaded n body (i + 1) (set stakes i x)
+  pub loaded-more : (x : ℕ) → i < length stakes → x ≡ stake_of (stakes_in body) i → Loaded n body (i + 1) (set stakes i x)
   loaded-more x h e =
       let l : i < n = omega (arith, k.size) in
-      let l' : i < length (loadedStakes n body) = omega (arith, length-loaded n body) in
+      let l' : i < length (loaded_stakes n body) = omega (arith, length-loaded n body) in
       record {
         size = simp length-set k.size;
-        first = rw (add-one, take-suc-set stakes i x h, take-suc (loadedStakes n body) i 0 l', loaded_at n body i l, ← e, k.first);
+        first = rw (add-one, take-suc-set stakes i x h, take-suc (loaded_stakes n body) i 0 l', loaded_at n body i l, ← e, k.first);
       }
 
-  pub loaded-all : length stakes ≤ i → stakes ≡ loadedStakes n body
-  loaded-all h = sym (take_all i stakes h) ∙ k.first ∙ take_all i (loadedStakes n body) (omega (arith, k.size, length-loaded n body))
+  pub loaded-all : length stakes ≤ i → stakes ≡ loaded_stakes n body
+  loaded-all h = sym (take_all i stakes h) ∙ k.first ∙ take_all i (loaded_stakes n body) (omega (arith, k.size, length-loaded n body))

@@ -1,8 +1,8 @@
 -- 01, Numbers the host sees, in 01's order.
---     done .. startedAgain    the numbers
+--     done .. started_again    the numbers
 --     number_of c quorum       of what a certificate's check found, `quorum` being the number for no quorum
---     authorNumber a          of what an author's check found
---     setupNumber s           of what START's check found
+--     author_number a          of what an author's check found
+--     setup_number s           of what START's check found
 use Rattle.std.specs.Prelude.{ℕ}
 use Rattle.certificates.specs.declared.config.Setup.{Setup}
 use Rattle.certificates.specs.declared.config.Setup.TheVariants.{Bad, Total}
@@ -18,96 +18,96 @@ done = 0
 abbrev pub stale : ℕ
 stale = 1
 
-abbrev pub waitParent : ℕ
-waitParent = 2
+abbrev pub wait_parent : ℕ
+wait_parent = 2
 
-abbrev pub waitPayload : ℕ
-waitPayload = 3
+abbrev pub wait_payload : ℕ
+wait_payload = 3
 
 -- "bad record: unknown kind, wrong body length, verdict or flag out of range"
-abbrev pub badRecord : ℕ
-badRecord = 16
+abbrev pub bad_record : ℕ
+bad_record = 16
 
 -- "bad setup (START only)"
-abbrev pub badSetup : ℕ
-badSetup = 17
+abbrev pub bad_setup : ℕ
+bad_setup = 17
 
 -- "room: table not 1 to 1,024 slots, or output below 44*slots+2,048 bytes"
-abbrev pub noRoom : ℕ
-noRoom = 18
+abbrev pub no_room : ℕ
+no_room = 18
 
 -- "any round in the record above 2^62; TICK while the current round is"
-abbrev pub roundTooHigh : ℕ
-roundTooHigh = 19
+abbrev pub round_too_high : ℕ
+round_too_high = 19
 
 -- "a signer list above 64"
-abbrev pub listTooLong : ℕ
-listTooLong = 20
+abbrev pub list_too_long : ℕ
+list_too_long = 20
 
 -- "wrong leader, bad signature, QC quorum, TC quorum": 21, 23, 25, 26
-abbrev pub wrongLeader : ℕ
-wrongLeader = 21
+abbrev pub wrong_leader : ℕ
+wrong_leader = 21
 
 -- "unknown authority, reuse": 22, 24
-abbrev pub unknownAuthority : ℕ
-unknownAuthority = 22
+abbrev pub unknown_authority : ℕ
+unknown_authority = 22
 
-abbrev pub invalidSignature : ℕ
-invalidSignature = 23
+abbrev pub invalid_signature : ℕ
+invalid_signature = 23
 
-abbrev pub authorityReuse : ℕ
-authorityReuse = 24
+abbrev pub authority_reuse : ℕ
+authority_reuse = 24
 
-abbrev pub qcRequiresQuorum : ℕ
-qcRequiresQuorum = 25
+abbrev pub qc_requires_quorum : ℕ
+qc_requires_quorum = 25
 
-abbrev pub tcRequiresQuorum : ℕ
-tcRequiresQuorum = 26
+abbrev pub tc_requires_quorum : ℕ
+tc_requires_quorum = 26
 
 -- "payload invalid"
-abbrev pub invalidPayload : ℕ
-invalidPayload = 27
+abbrev pub invalid_payload : ℕ
+invalid_payload = 27
 
 -- "new digest, no empty slot"
-abbrev pub tableFull : ℕ
-tableFull = 28
+abbrev pub table_full : ℕ
+table_full = 28
 
 -- "new tally, all 32 vote or 16 timeout tallies held"
-abbrev pub talliesFull : ℕ
-talliesFull = 29
+abbrev pub tallies_full : ℕ
+tallies_full = 29
 
 -- "b0 or a walked parent absent"
-abbrev pub ancestorAbsent : ℕ
-ancestorAbsent = 30
+abbrev pub ancestor_absent : ℕ
+ancestor_absent = 30
 
 -- "walked parent's round not below its child's"
-abbrev pub roundNotBelow : ℕ
-roundNotBelow = 31
+abbrev pub round_not_below : ℕ
+round_not_below = 31
 
 -- "LOOPBACK with an empty TC"
-abbrev pub emptyTC : ℕ
-emptyTC = 32
+abbrev pub empty_tc : ℕ
+empty_tc = 32
 
 -- "not started; START again": 33, 34
-abbrev pub notStarted : ℕ
-notStarted = 33
+abbrev pub not_started : ℕ
+not_started = 33
 
-abbrev pub startedAgain : ℕ
-startedAgain = 34
+abbrev pub started_again : ℕ
+started_again = 34
 
 abbrev pub number_of : Checked → ℕ → ℕ
 number_of (Accepted s) quorum = done
-number_of (AuthorityReuse p) quorum = authorityReuse
-number_of (UnknownAuthority p) quorum = unknownAuthority
+number_of (AuthorityReuse p) quorum = authority_reuse
+number_of (UnknownAuthority p) quorum = unknown_authority
 number_of RequiresQuorum quorum = quorum
-number_of InvalidSignature quorum = invalidSignature
-number_of Cut quorum = badRecord
+number_of InvalidSignature quorum = invalid_signature
+number_of Cut quorum = bad_record
 
-abbrev pub authorNumber : Authored → ℕ
-authorNumber (authored.Valid s) = done
-authorNumber (authored.UnknownAuthority p) = unknownAuthority
-authorNumber authored.InvalidSignature = invalidSignature
+abbrev pub author_number : Authored → ℕ
+author_number (authored.Valid s) = done
+author_number (authored.UnknownAuthority p) = unknown_authority
+author_number authored.InvalidSignature = invalid_signature
 
-abbrev pub setupNumber : Setup → ℕ
-setupNumber Bad = badSetup
-setupNumber (Total t) = done
+abbrev pub setup_number : Setup → ℕ
+setup_number Bad = bad_setup
+setup_number (Total t) = done

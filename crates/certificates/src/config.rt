@@ -2,8 +2,8 @@
 //
 // A committee is the slice of its members' stakes by place; its length is the member count.
 ghost use Rattle.std.specs.Prelude.{◌≡◌, ◌+◌, ◌*◌, ◌≤◌, length};
-ghost use Rattle.certificates.specs.Config.{membersMax, sum, stakeOf, quorumFrom, limited, setupOf};
-ghost use Rattle.certificates.specs.Start.{sameWord, membersAt, memberLen, memberCount, ownPlace, stakesIn, key_at, keysFrom, below, ascending, setupAt, loadedStakes};
+ghost use Rattle.certificates.specs.Config.{members_max, sum, stake_of, quorum_from, limited, setup_of};
+ghost use Rattle.certificates.specs.Start.{same_word, members_at, member_len, member_count, own_place, stakes_in, key_at, keys_from, below, ascending, setup_at, loaded_stakes};
 
 use crate::num::{holds, u8_at, u16_at, u32_at, u64_at};
 use crate::numbers::{Place, Stake};
@@ -28,7 +28,7 @@ const KEY_LEN: usize = 32;
 const WORD: usize = 8;
 
 // Whether a committee keeps the limits, and its total stake where it does.
-#[derive(Drop)]
+#[derive(Clone, Copy)]
 pub enum Setup {
     Bad,
     Total(Stake),
@@ -36,7 +36,7 @@ pub enum Setup {
 
 // The stake of a place, which is 0 where the place is no member's.
 pub fn stake(members: &[u32], place: Place) -> Stake
-    ensures { result.0 ≡ stakeOf members.now place.0 }
+    ensures { result.0 ≡ stake_of members.now place.0 }
 {
     let p = place.0 as usize;
     if p < members.len() {
@@ -47,7 +47,7 @@ pub fn stake(members: &[u32], place: Place) -> Stake
 
 // Two thirds of the total, rounded down, and one more.
 pub fn quorum_threshold(total: Stake) -> Stake
-    ensures { result.0 ≡ quorumFrom total.0 }
+    ensures { result.0 ≡ quorum_from total.0 }
 {
     let t = total.0 as u64;
     let q = 2 * t / 3 + 1;
@@ -66,7 +66,7 @@ fn limit(total: u64) -> Setup
 
 // The stake of so few members that the sum fits.
 fn sum_any(members: &[u32]) -> u64
-    requires { length members.now ≤ membersMax }
+    requires { length members.now ≤ members_max }
     ensures { result ≡ sum members.now }
 {
     let mut sum: u64 = 0;
@@ -82,7 +82,7 @@ fn sum_any(members: &[u32]) -> u64
 // The same. Where no stake is large, which `all` tells, the sum fits 32 bits: every event asks for it, and
 // more of them are added at a time.
 fn sum_stakes(members: &[u32]) -> u64
-    requires { length members.now ≤ membersMax }
+    requires { length members.now ≤ members_max }
     ensures { result ≡ sum members.now }
 {
     let mut all: u32 = 0;
@@ -102,7 +102,7 @@ fn sum_stakes(members: &[u32]) -> u64
 
 // The total stake of a committee: `Bad` without members, with too many, or with too much stake.
 pub fn total_stake(members: &[u32]) -> Setup
-    ensures { result ≡ setupOf members.now }
+    ensures { result ≡ setup_of members.now }
 {
     let n = members.len();
     if n == 0 {
@@ -116,21 +116,21 @@ pub fn total_stake(members: &[u32]) -> Setup
 
 // The member count in START's body.
 pub fn member_count(body: &[u8]) -> u16
-    ensures { result ≡ memberCount body.now }
+    ensures { result ≡ member_count body.now }
 {
     u16_at(body, 0)
 }
 
 // The own place in START's body.
 pub fn own_place(body: &[u8]) -> Place
-    ensures { result.0 ≡ ownPlace body.now }
+    ensures { result.0 ≡ own_place body.now }
 {
     Place(u16_at(body, 2))
 }
 
 // The stake of member `i` in START's body, 0 where the body names no such member.
 fn stake_in(body: &[u8], i: usize) -> u32
-    ensures { result ≡ stakeOf (stakesIn body.now) i }
+    ensures { result ≡ stake_of (stakes_in body.now) i }
 {
     let n = member_count(body) as usize;
     if i < n {
@@ -142,8 +142,8 @@ fn stake_in(body: &[u8], i: usize) -> u32
 
 // The stake of the first `n` members in START's body.
 fn sum_in(body: &[u8], n: usize) -> u64
-    requires { (n ≡ memberCount body.now) × (n ≤ membersMax) }
-    ensures { result ≡ sum (stakesIn body.now) }
+    requires { (n ≡ member_count body.now) × (n ≤ members_max) }
+    ensures { result ≡ sum (stakes_in body.now) }
 {
     let mut sum: u64 = 0;
     let mut i = 0;
@@ -157,7 +157,7 @@ fn sum_in(body: &[u8], n: usize) -> u64
 
 // Whether the next eight of so many bytes that are left lie in the body at both places, and are the same.
 fn is_word_same(body: &[u8], x: usize, y: usize, left: usize) -> bool
-    ensures { result ≡ sameWord body.now x y left }
+    ensures { result ≡ same_word body.now x y left }
 {
     if left < WORD {
         return false;
@@ -173,7 +173,7 @@ fn is_word_same(body: &[u8], x: usize, y: usize, left: usize) -> bool
 // Whether the key at `a` is below the key at `b`: the first byte that differs decides. Words that are the
 // same are passed over.
 fn key_below(body: &[u8], a: usize, b: usize) -> bool
-    requires { (a ≤ membersAt + memberLen * membersMax) × (b ≤ membersAt + memberLen * membersMax) }
+    requires { (a ≤ members_at + member_len * members_max) × (b ≤ members_at + member_len * members_max) }
     ensures { result ≡ below (key_at body.now a) (key_at body.now b) }
 {
     let mut x = a;
@@ -203,8 +203,8 @@ fn key_below(body: &[u8], a: usize, b: usize) -> bool
 
 // Whether each of the first `n` keys in START's body is below the next.
 fn keys_ascend(body: &[u8], n: usize) -> bool
-    requires { n ≤ membersMax }
-    ensures { result ≡ ascending (keysFrom n body.now membersAt) }
+    requires { n ≤ members_max }
+    ensures { result ≡ ascending (keys_from n body.now members_at) }
 {
     let mut at = MEMBERS_AT;
     let mut left = n;
@@ -222,7 +222,7 @@ fn keys_ascend(body: &[u8], n: usize) -> bool
 
 // START's body: its members keep the limits, their keys ascend, and the own place is one of theirs.
 pub fn check_setup(body: &[u8]) -> Setup
-    ensures { result ≡ setupAt body.now }
+    ensures { result ≡ setup_at body.now }
 {
     let n = member_count(body) as usize;
     let own = own_place(body);
@@ -240,7 +240,7 @@ pub fn check_setup(body: &[u8]) -> Setup
 
 // The stakes of START's body into a lent slice: member by member, and 0 past the last.
 pub fn load(stakes: &mut [u32], body: &[u8])
-    ensures { stakes.new ≡ loadedStakes (length stakes.old) body.now }
+    ensures { stakes.new ≡ loaded_stakes (length stakes.old) body.now }
 {
     let mut i = 0;
     while i < stakes.len() {

@@ -1,6 +1,6 @@
 // The numbers that the host sees (01), in 01's order: error.rs became numbers.
 ghost use Rattle.std.specs.Prelude.{◌≡◌};
-ghost use Rattle.certificates.specs.Error.{number_of, authorNumber, setupNumber};
+ghost use Rattle.certificates.specs.Error.{number_of, author_number, setup_number};
 
 use crate::config::Setup;
 use crate::messages::{Authored, Checked};
@@ -77,7 +77,7 @@ pub fn number_of(c: Checked, quorum: u16) -> u16
 
 // The number of what an author's check found.
 pub fn author_number(a: Authored) -> u16
-    ensures { result ≡ authorNumber a }
+    ensures { result ≡ author_number a }
 {
     match a {
         Authored::Valid(_) => DONE,
@@ -88,7 +88,7 @@ pub fn author_number(a: Authored) -> u16
 
 // The number of what the check of a setup found.
 pub fn setup_number(s: Setup) -> u16
-    ensures { result ≡ setupNumber s }
+    ensures { result ≡ setup_number s }
 {
     match s {
         Setup::Bad => BAD_SETUP,

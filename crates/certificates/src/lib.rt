@@ -4,6 +4,8 @@
 // and the limits of a setup, `leader` who leads, `signers` the sets of places, `messages` the checks
 // of certificates, `error` the numbers that the host sees. A committee is a lent slice of its
 // members' stakes. Every public function answers for every input.
+#![tactic(auto)]
+
 pub mod config;
 pub mod error;
 pub mod leader;

@@ -1,8 +1,8 @@
 // Certificates: messages.rs. The QC's equality with genesis, the checks of a QC and of a TC in the
 // bytes of a record, and the check of an author that a block, a vote and a timeout share.
 ghost use Rattle.std.specs.Prelude.{◌≡◌, ◌+◌, ◌*◌, ◌≤◌, [], length};
-ghost use Rattle.certificates.specs.Num.{num_at, numsAt};
-ghost use Rattle.certificates.specs.Messages.{isGenesis, authorCheck, unknownTo, settledBy, checkFrom, checkPart, qcCheck, tcCheck, equalsGenesis, embeddedCheck};
+ghost use Rattle.certificates.specs.Num.{num_at, nums_at};
+ghost use Rattle.certificates.specs.Messages.{is_genesis, author_check, unknown_to, settled_by, check_from, check_part, qc_check, tc_check, equals_genesis, embedded_check};
 
 use crate::config::{MEMBERS_MAX, stake};
 use crate::num::{hash_at, raw16, u8_at, u16_at, u64_at};
@@ -19,7 +19,7 @@ const TC_VERDICT: usize = 8;
 const TC_ENTRY: usize = 10;
 
 // A certificate as it is kept: of a block's digest and a round, by these signers.
-#[derive(Drop)]
+#[derive(Clone, Copy)]
 pub struct QC {
     pub hash: Hash,
     pub round: Round,
@@ -27,7 +27,7 @@ pub struct QC {
 }
 
 // What the check of a certificate finds.
-#[derive(Drop)]
+#[derive(Clone, Copy)]
 pub enum Checked {
     Accepted(Signers),
     // The first signer that is named again.
@@ -41,7 +41,7 @@ pub enum Checked {
 }
 
 // What the check of an author finds: its stake where it is valid.
-#[derive(Drop)]
+#[derive(Clone, Copy)]
 pub enum Authored {
     Valid(Stake),
     UnknownAuthority(Place),
@@ -50,7 +50,7 @@ pub enum Authored {
 
 // Whether a QC of this hash and round equals genesis: signers and verdict do not count.
 pub fn is_genesis(hash: Hash, round: Round) -> bool
-    ensures { result ≡ isGenesis hash round.0 }
+    ensures { result ≡ is_genesis hash round.0 }
 {
     let zero = Hash {
         a: 0,
@@ -66,7 +66,7 @@ pub fn is_genesis(hash: Hash, round: Round) -> bool
 
 // Ensure the authority has voting rights, then check the signature.
 pub fn check_author(members: &[u32], author: Place, verdict: u8) -> Authored
-    ensures { result ≡ authorCheck members.now author.0 verdict }
+    ensures { result ≡ author_check members.now author.0 verdict }
 {
     let held = stake(members, author);
     if held.0 == 0 {
@@ -88,7 +88,7 @@ fn place_at(part: &[u8], at: usize, stride: usize, i: usize) -> Place
 
 // Whether a place is no member with stake. A signer set has room for no place past the limit.
 fn is_unknown(members: &[u32], p: Place) -> bool
-    ensures { result ≡ unknownTo members.now p.0 }
+    ensures { result ≡ unknown_to members.now p.0 }
 {
     if MEMBERS_MAX <= p.0 as usize {
         return true;
@@ -99,7 +99,7 @@ fn is_unknown(members: &[u32], p: Place) -> bool
 
 // Signers of whom each is known and none is named twice: the quorum, and then the verdict.
 fn settle(members: &[u32], need: Stake, verdict: bool, s: Signers) -> Checked
-    ensures { result ≡ settledBy members.now need.0 verdict s }
+    ensures { result ≡ settled_by members.now need.0 verdict s }
 {
     let held = weight(members, s);
     if held < need.0 as u64 {
@@ -124,7 +124,7 @@ fn check_list(
     verdict: bool,
 ) -> Checked
     requires { (2 ≤ stride) × (at + stride * n ≤ length part.now) }
-    ensures { result ≡ checkFrom members.now need.0 verdict [] (numsAt 2 stride n part.now at) }
+    ensures { result ≡ check_from members.now need.0 verdict [] (nums_at 2 stride n part.now at) }
 {
     let mut word: u64 = 0;
     let mut i = 0;
@@ -153,7 +153,7 @@ fn check_list(
 // The end of a certificate, from `at` on: verdict 1, count 2, then the entries.
 fn check_tail(members: &[u32], need: Stake, part: &[u8], at: usize, stride: usize) -> Checked
     requires { (at ≤ 40) × (2 ≤ stride) × (stride ≤ 10) }
-    ensures { result ≡ checkPart record { at = at; stride = stride } members.now need.0 part.now }
+    ensures { result ≡ check_part record { at = at; stride = stride } members.now need.0 part.now }
 {
     let verdict = u8_at(part, at);
     let n = u16_at(part, at + 1) as usize;
@@ -166,21 +166,21 @@ fn check_tail(members: &[u32], need: Stake, part: &[u8], at: usize, stride: usiz
 
 // QC::verify: hash 32 and round 8 stand before its end, and an entry is a place.
 pub fn check_qc(members: &[u32], need: Stake, part: &[u8]) -> Checked
-    ensures { result ≡ qcCheck members.now need.0 part.now }
+    ensures { result ≡ qc_check members.now need.0 part.now }
 {
     check_tail(members, need, part, QC_VERDICT, QC_ENTRY)
 }
 
 // TC::verify: round 8 stands before its end, and an entry is a place and a high round.
 pub fn check_tc(members: &[u32], need: Stake, part: &[u8]) -> Checked
-    ensures { result ≡ tcCheck members.now need.0 part.now }
+    ensures { result ≡ tc_check members.now need.0 part.now }
 {
     check_tail(members, need, part, TC_VERDICT, TC_ENTRY)
 }
 
 // Whether the bytes are a QC that equals genesis. Bytes that end before its round does are none.
 pub fn equals_genesis(part: &[u8]) -> bool
-    ensures { result ≡ equalsGenesis part.now }
+    ensures { result ≡ equals_genesis part.now }
 {
     if part.len() < QC_VERDICT {
         return false;
@@ -192,7 +192,7 @@ pub fn equals_genesis(part: &[u8]) -> bool
 
 // The QC inside a block or a timeout: one that equals genesis is not checked, and names no signers.
 pub fn check_embedded_qc(members: &[u32], need: Stake, part: &[u8]) -> Checked
-    ensures { result ≡ embeddedCheck members.now need.0 part.now }
+    ensures { result ≡ embedded_check members.now need.0 part.now }
 {
     if equals_genesis(part) {
         return Checked::Accepted(Signers(0));

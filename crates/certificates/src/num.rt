@@ -1,7 +1,7 @@
 // Little-endian numbers and hashes at a place of a slice. A place from which the bytes do not all
 // lie in the slice reads as zero.
 ghost use Rattle.std.specs.Prelude.{◌≡◌, ◌+◌, ◌≤◌, length, take, drop, leb};
-ghost use Rattle.certificates.specs.Num.{le, num_at, hashIn, hashAt};
+ghost use Rattle.certificates.specs.Num.{le, num_at, hash_in, hash_at};
 
 use crate::numbers::Hash;
 
@@ -78,7 +78,7 @@ pub fn u64_at(s: &[u8], at: usize) -> u64
 // The 32 bytes from `at` on, as a hash.
 fn raw_hash(s: &[u8], at: usize) -> Hash
     requires { at + 32 ≤ length s.now }
-    ensures { result ≡ hashIn s.now at }
+    ensures { result ≡ hash_in s.now at }
 {
     Hash {
         a: raw64(s, at),
@@ -89,7 +89,7 @@ fn raw_hash(s: &[u8], at: usize) -> Hash
 }
 
 pub fn hash_at(s: &[u8], at: usize) -> Hash
-    ensures { result ≡ hashAt s.now at }
+    ensures { result ≡ hash_at s.now at }
 {
     if holds(s, at, 32) {
         raw_hash(s, at)

@@ -1,7 +1,7 @@
 // Sets of signers (01: Certificates). Ones count them, trailing zeros visit their places.
 ghost use Rattle.std.specs.Prelude.{◌≡◌};
 ghost use Rattle.std.specs.Int.Count.{ones};
-ghost use Rattle.certificates.specs.Signers.{weightOf};
+ghost use Rattle.certificates.specs.Signers.{weight_of};
 
 use crate::config::stake;
 use crate::numbers::{Place, Signers};
@@ -15,7 +15,7 @@ pub fn count(s: Signers) -> u32
 
 // The stake of the signers.
 pub fn weight(members: &[u32], s: Signers) -> u64
-    ensures { result ≡ weightOf members.now s }
+    ensures { result ≡ weight_of members.now s }
 {
     let mut left = s.0;
     let mut sum: u64 = 0;

@@ -3,6 +3,8 @@
 // above 4,096 or a record cut by the end gets ANSWER 16 and ends the run."
 //
 // What is answered is in `forms::run`, on slices. What is here moves bytes, and is proved safe.
+#![tactic(auto)]
+
 ghost use Rattle.std.specs.Prelude.{◌+◌, ◌≤◌, length};
 
 use buffers::shift;
@@ -11,7 +13,7 @@ use libc::{STDIN_FILENO, STDOUT_FILENO};
 use outputs::records::{ANSWER_SIZE, put_answer};
 
 // The bytes from start up to have are trace that was read and not taken.
-#[derive(Drop)]
+#[derive(Clone, Copy)]
 struct State {
     start: usize,
     have: usize,

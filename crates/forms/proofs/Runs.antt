@@ -11,31 +11,31 @@ use lib.ListN.{length, drop, take, length-drop}
 use lib.Seq.{drop-drop}
 use Rattle.trace.proofs.Parts.{all_after}
 use Rattle.outputs.specs.Put.{Put, Wrote}
-use Rattle.outputs.specs.Records.{answer, enc, answerSize}
+use Rattle.outputs.specs.Records.{answer, enc, answer_size}
 use Rattle.outputs.proofs.Wrote.{wrote_none, wrote_one, wrote_then}
 use Rattle.forms.specs.declared.Turn.{Turn}
 use Rattle.forms.specs.declared.Turn.TheVariants.{Stop, Go}
 use Rattle.forms.specs.Numbers.{turn_of}
-use Rattle.forms.specs.Run.{numbersOf, usedOf, roomIn, RanIs}
+use Rattle.forms.specs.Run.{numbers_of, used_of, room_in, RanIs}
 use Rattle.forms.proofs.Turns.{go-within}
 
 module _ (s : List ℕ) {f : Turn} (p : f ≡ turn_of s) where
-  pub numbers-stop : (n : ℕ) → f ≡ Stop → numbersOf n s ≡ []
-  unfolding numbersOf
+  pub numbers-stop : (n : ℕ) → f ≡ Stop → numbers_of n s ≡ []
+  unfolding numbers_of
   numbers-stop zero q = refl
   numbers-stop (suc n) q = rw (← p, q)
 
-  pub used-stop : (n : ℕ) → f ≡ Stop → ◌≡◌ {A = ℕ} (usedOf n s) 0
-  unfolding usedOf
+  pub used-stop : (n : ℕ) → f ≡ Stop → ◌≡◌ {A = ℕ} (used_of n s) 0
+  unfolding used_of
   used-stop zero q = refl
   used-stop (suc n) q = let h = used-stop n q in rw (← p, q) (omega arith)
 
-  pub numbers-go : (n : ℕ) {number end : ℕ} → f ≡ Go number end → numbersOf (suc n) s ≡ number ∷ numbersOf n (drop end s)
-  unfolding numbersOf
+  pub numbers-go : (n : ℕ) {number end : ℕ} → f ≡ Go number end → numbers_of (suc n) s ≡ number ∷ numbers_of n (drop end s)
+  unfolding numbers_of
   numbers-go n q = rw (← p, q)
 
-  pub used-go : (n : ℕ) {number end : ℕ} → f ≡ Go number end → usedOf (suc n) s ≡ end + usedOf n (drop end s)
-  unfolding usedOf
+  pub used-go : (n : ℕ) {number end : ℕ} → f ≡ Go number end → used_of (suc n) s ≡ end + used_of n (drop end s)
+  unfolding used_of
   used-go n q = rw (← p, q)
 
 -- t is what is left of the trace after `used` bytes; the numbers of the records in these bytes are written, and there is room for `left` more
@@ -44,18 +44,18 @@ pub record Going (trace before after t : List ℕ) (used at : ℕ) : Type 0 wher
   pub left : ℕ
   pub rest : t ≡ drop used trace
   pub within : used ≤ length trace
-  pub room : left ≡ (length before - at) / answerSize
+  pub room : left ≡ (length before - at) / answer_size
   pub fits : at ≤ length before
   pub same : length after ≡ length before
   pub wrote : Wrote (length before) (map answer numbers) before 0 after at
-  pub all : numbersOf (roomIn before) trace ≡ numbers ++ numbersOf left t
-  pub taken : usedOf (roomIn before) trace ≡ used + usedOf left t
+  pub all : numbers_of (room_in before) trace ≡ numbers ++ numbers_of left t
+  pub taken : used_of (room_in before) trace ≡ used + used_of left t
 
 pub start : (trace out : List ℕ) → Going trace out out trace 0 0
 start trace out =
     record {
       numbers = [];
-      left = roomIn out;
+      left = room_in out;
       rest = refl;
       within = omega arith;
       room = let z : length out - 0 ≡ length out = omega arith in rw z;
@@ -75,14 +75,14 @@ module _ {trace before after t : List ℕ} {used at : ℕ} (g : Going trace befo
       omega arith
 
   -- a turn
-  pub turned : {f : Turn} {number end next : ℕ} {later : List ℕ} → f ≡ turn_of t → f ≡ Go number end → answerSize ≤ length after - at
-      → Put after at answerSize (enc (answer number)) later next → length later ≡ length after
+  pub turned : {f : Turn} {number end next : ℕ} {later : List ℕ} → f ≡ turn_of t → f ≡ Go number end → answer_size ≤ length after - at
+      → Put after at answer_size (enc (answer number)) later next → length later ≡ length after
       → Going trace before later (take (length t - end) (drop end t)) (used + end) next
   turned {f} {number} {end} {next} p q r put l =
       let b = in-trace p q in
-      let fewer : ℕ = (length before - next) / answerSize in
+      let fewer : ℕ = (length before - next) / answer_size in
       let one_less : g.left ≡ suc fewer = omega (arith, g.room, g.same, put.place) in
-      let more : usedOf g.left t ≡ end + usedOf fewer (drop end t) = rw one_less (used-go t p fewer q) in
+      let more : used_of g.left t ≡ end + used_of fewer (drop end t) = rw one_less (used-go t p fewer q) in
       let w = wrote_then g.wrote (wrote_one (answer number) put) in
       record {
         numbers = g.numbers ++ number ∷ [];
@@ -103,12 +103,12 @@ module _ {trace before after t : List ℕ} {used at : ℕ} (g : Going trace befo
       }
 
   -- the two ends
-  ended : numbersOf g.left t ≡ [] → ◌≡◌ {A = ℕ} (usedOf g.left t) 0 → RanIs trace before after (record { used = used; written = at })
+  ended : numbers_of g.left t ≡ [] → ◌≡◌ {A = ℕ} (used_of g.left t) 0 → RanIs trace before after (record { used = used; written = at })
   ended n u = record { wrote = rw (g.all, n, append-nil) g.wrote; taken = omega (arith, g.taken) }
 
   pub stopped : {f : Turn} → f ≡ turn_of t → f ≡ Stop → RanIs trace before after (record { used = used; written = at })
   stopped p q = ended (numbers-stop t p g.left q) (used-stop t p g.left q)
 
-  pub filled : length after - at < answerSize → RanIs trace before after (record { used = used; written = at })
-  unfolding numbersOf usedOf
+  pub filled : length after - at < answer_size → RanIs trace before after (record { used = used; written = at })
+  unfolding numbers_of used_of
   filled h = let z : g.left ≡ 0 = omega (arith, g.room, g.same) in ended (rw z) (rw z)

@@ -2,8 +2,10 @@
 // record, then 32, 20 and 19 for one that passes a limit, else 0 (01, Numbers the host sees).
 //
 // The forms and the limits are those of `trace`, the ANSWER that of `outputs`.
+#![tactic(auto)]
+
 ghost use Rattle.std.specs.Prelude.{◌≡◌};
-ghost use Rattle.forms.specs.Numbers.{byForm, number_of, turn_of, tooLong};
+ghost use Rattle.forms.specs.Numbers.{by_form, number_of, turn_of, too_long};
 ghost use Rattle.forms.specs.Run.{RanIs};
 
 use certificates::error::BAD_RECORD;
@@ -14,7 +16,7 @@ use trace::part::middle;
 use trace::record::{Front, RECORD_MAX, split};
 
 // What the front of a trace asks for.
-#[derive(Drop)]
+#[derive(Clone, Copy)]
 pub enum Turn {
     // No answer: there is no record, or it is cut.
     Stop,
@@ -22,7 +24,7 @@ pub enum Turn {
     Go { number: u16, end: usize },
 }
 
-#[derive(Drop)]
+#[derive(Clone, Copy)]
 pub struct Ran {
     // The bytes of the trace that were taken.
     pub used: usize,
@@ -32,7 +34,7 @@ pub struct Ran {
 
 // 16 for a record without form, and else the number that it gets by its limits.
 fn by_form(kind: Kind, limit: u16) -> u16
-    ensures { result ≡ byForm kind limit }
+    ensures { result ≡ by_form kind limit }
 {
     match kind {
         Kind::Bad => BAD_RECORD,
@@ -74,7 +76,7 @@ pub fn answer_front(trace: &[u8]) -> Turn
 
 // Whether the length at the front is above the most, so that no more bytes make a record of it.
 pub fn is_too_long(trace: &[u8]) -> bool
-    ensures { result ≡ tooLong trace.now }
+    ensures { result ≡ too_long trace.now }
 {
     RECORD_MAX < u16_at(trace, 0) as usize
 }

@@ -3,32 +3,32 @@ use Prim.Native.Nat.{ℕ}
 use mathlib.Core.Bool.{Bool, true, false}
 use mathlib.Core.List.{List, [], ◌∷◌, map}
 use mathlib.Core.Path.{◌≡◌}
-use Rattle.certificates.specs.Numbers.{zeroHash}
+use Rattle.certificates.specs.Numbers.{zero_hash}
 use Rattle.trace.specs.declared.events.Block.{Block}
 use Rattle.trace.specs.Layout.{largest}
 use Rattle.trace.proofs.Bounds.{largest-one, largest-cons}
 use Rattle.moves.specs.declared.state.Core.{Core}
-use Rattle.handlers.specs.Votes.{extends, mayVote}
+use Rattle.handlers.specs.Votes.{extends, may_vote}
 
 -- a replica in round 5 that voted last in the round `last`
-unfoldable pub coreAfter : ℕ → Core
-coreAfter last =
+unfoldable pub core_after : ℕ → Core
+core_after last =
     record {
       round = record { 0 = 5 };
       last_voted_round = record { 0 = last };
       last_committed_round = record { 0 = 0 };
-      high_qc = record { hash = zeroHash; round = record { 0 = 0 }; signers = record { 0 = 0 } };
+      high_qc = record { hash = zero_hash; round = record { 0 = 0 }; signers = record { 0 = 0 } };
     }
 
 -- "Block round 5, TC round 4 with high rounds 1,2,3", and a QC of round qc
-unfoldable pub blockOn : ℕ → Block
-blockOn qc =
+unfoldable pub block_on : ℕ → Block
+block_on qc =
     record {
-      digest = zeroHash;
+      digest = zero_hash;
       author = record { 0 = 1 };
       round = record { 0 = 5 };
       verdict = 1;
-      qc_hash = zeroHash;
+      qc_hash = zero_hash;
       qc_round = record { 0 = qc };
       tc = 89;
       tc_round = record { 0 = 4 };
@@ -55,6 +55,6 @@ readings =
     ∷ reads 5 3 false
     ∷ []
 
-pub votes-by-rule : map (λ (r : Reading). mayVote (coreAfter r.last) (blockOn r.qc)) readings ≡ map (λ (r : Reading). r.voted) readings
-unfolding coreAfter blockOn extends mayVote
+pub votes-by-rule : map (λ (r : Reading). may_vote (core_after r.last) (block_on r.qc)) readings ≡ map (λ (r : Reading). r.voted) readings
+unfolding core_after block_on extends may_vote
 votes-by-rule = rw (largest-cons 1 (2 ∷ 3 ∷ []), largest-cons 2 (3 ∷ []), largest-one 3)

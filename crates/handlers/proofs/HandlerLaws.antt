@@ -13,19 +13,19 @@ use borrow.Author.Tests.{eq-eqb, ne_eqb, eqb-true, eqb-false}
 use lib.Dec.{eqb}
 use lib.ListN.{length}
 use Rattle.certificates.specs.declared.messages.QC.{QC}
-use Rattle.certificates.specs.Config.{totalMax, stakeOf}
-use Rattle.certificates.specs.Messages.{authorCheck}
-use Rattle.certificates.specs.Error.{authorNumber}
+use Rattle.certificates.specs.Config.{total_max, stake_of}
+use Rattle.certificates.specs.Messages.{author_check}
+use Rattle.certificates.specs.Error.{author_number}
 use Rattle.certificates.proofs.ConfigLaws.{stake-le}
 use Rattle.certificates.proofs.MessageLaws.{author}
 use Rattle.certificates.proofs.ErrorLaws.{number-valid}
-use Rattle.aggregator.specs.Tally.{places, voteWidth, timeoutWidth}
-use Rattle.aggregator.specs.Tallies.{voteTallies, timeoutTallies, Countable}
+use Rattle.aggregator.specs.Tally.{places, vote_width, timeout_width}
+use Rattle.aggregator.specs.Tallies.{vote_tallies, timeout_tallies, Countable}
 use Rattle.aggregator.proofs.Laws.{countable}
 use Rattle.moves.specs.declared.state.Core.{Core}
 use Rattle.moves.specs.State.{State, whole}
 use Rattle.moves.specs.Outcome.{Did}
-use Rattle.moves.specs.Moves.{takenQC}
+use Rattle.moves.specs.Moves.{taken_qc}
 use Rattle.moves.proofs.MoveLaws.{Keeps, did-keeps, taken-keeps}
 use Rattle.handlers.specs.Sound.{Sound, first}
 
@@ -49,15 +49,15 @@ module _ (a b : ℕ) where
 -- ---- an author
 
 -- an author whose check is passed is a member
-pub author-member : (m : List ℕ) (p verdict : ℕ) → authorNumber (authorCheck m p verdict) ≡ 0 → p < length m
+pub author-member : (m : List ℕ) (p verdict : ℕ) → author_number (author_check m p verdict) ≡ 0 → p < length m
 author-member m p verdict e =
-    let v = number-valid (authorCheck m p verdict) e in
+    let v = number-valid (author_check m p verdict) e in
     (author m p verdict v.0 v.1).member
 
 -- ---- a record that counts as started
 
 -- a record that counts as started is one after a move
-pub keeps-sound : {m : List ℕ} {own : ℕ} {s s' : State} → Keeps totalMax s s' → Sound m own s.votes s.timeouts → Sound m own s'.votes s'.timeouts
+pub keeps-sound : {m : List ℕ} {own : ℕ} {s s' : State} → Keeps total_max s s' → Sound m own s.votes s.timeouts → Sound m own s'.votes s'.timeouts
 keeps-sound h k =
     record {
       few = k.few;
@@ -70,22 +70,22 @@ keeps-sound h k =
     }
 
 module _ {m : List ℕ} {own : ℕ} {votes timeouts : List ℕ} (k : Sound m own votes timeouts) where
-  pub sound-stake : (p : ℕ) → stakeOf m p ≤ totalMax
+  pub sound-stake : (p : ℕ) → stake_of m p ≤ total_max
   sound-stake p = omega (arith, stake-le m p, k.small)
 
   pub sound-place : (p : ℕ) → p < length m → p < places
   sound-place p h = omega (arith, k.few)
 
   -- what `add_vote` and `add_timeout` ask of a member with its stake
-  module _ (p : ℕ) {stake : ℕ} (h : p < length m) (e : stake ≡ stakeOf m p) where
-    pub sound-counts-vote : Countable voteWidth voteTallies votes p stake
-    sound-counts-vote = countable voteWidth voteTallies votes totalMax p stake k.long (sound-place p h) k.light (rw e (sound-stake p)) (omega arith)
+  module _ (p : ℕ) {stake : ℕ} (h : p < length m) (e : stake ≡ stake_of m p) where
+    pub sound-counts-vote : Countable vote_width vote_tallies votes p stake
+    sound-counts-vote = countable vote_width vote_tallies votes total_max p stake k.long (sound-place p h) k.light (rw e (sound-stake p)) (omega arith)
 
-    pub sound-counts-timeout : Countable timeoutWidth timeoutTallies timeouts p stake
+    pub sound-counts-timeout : Countable timeout_width timeout_tallies timeouts p stake
     sound-counts-timeout =
-        countable timeoutWidth timeoutTallies timeouts totalMax p stake k.wide (sound-place p h) k.late (rw e (sound-stake p)) (omega arith)
+        countable timeout_width timeout_tallies timeouts total_max p stake k.wide (sound-place p h) k.late (rw e (sound-stake p)) (omega arith)
 
   -- once a QC is taken
-  pub sound-taken : (core : Core) (q : QC) {l at next : ℕ} {c : Core} {out out' v t : List ℕ} → Did l (takenQC (whole core votes timeouts) q) out at c v t out' next → Sound m own v t
+  pub sound-taken : (core : Core) (q : QC) {l at next : ℕ} {c : Core} {out out' v t : List ℕ} → Did l (taken_qc (whole core votes timeouts) q) out at c v t out' next → Sound m own v t
   sound-taken core q {c = c} {v = v} {t = t} d =
-      keeps-sound {s = whole core votes timeouts} {s' = whole c v t} (did-keeps d (taken-keeps totalMax (whole core votes timeouts) k.long k.wide q)) k
+      keeps-sound {s = whole core votes timeouts} {s' = whole c v t} (did-keeps d (taken-keeps total_max (whole core votes timeouts) k.long k.wide q)) k

@@ -16,136 +16,136 @@ use lib.Dec.{eqb}
 use lib.ListN.{length}
 use Rattle.certificates.specs.declared.numbers.Signers.{Signers}
 use Rattle.certificates.specs.declared.messages.Checked.{Checked}
-use Rattle.certificates.specs.Config.{totalMax}
-use Rattle.certificates.specs.Leader.{leaderOf}
-use Rattle.certificates.specs.Messages.{authorCheck}
-use Rattle.certificates.specs.Error.{waitPayload, wrongLeader, qcRequiresQuorum, invalidPayload, number_of, authorNumber}
+use Rattle.certificates.specs.Config.{total_max}
+use Rattle.certificates.specs.Leader.{leader_of}
+use Rattle.certificates.specs.Messages.{author_check}
+use Rattle.certificates.specs.Error.{wait_payload, wrong_leader, qc_requires_quorum, invalid_payload, number_of, author_number}
 use Rattle.trace.specs.declared.events.Block.{Block}
 use Rattle.moves.specs.declared.state.Core.{Core}
 use Rattle.moves.specs.State.{State, whole}
 use Rattle.moves.specs.Outcome.{Step, quiet, done, refused, Did}
-use Rattle.moves.specs.Moves.{advanced, takenQC}
-use Rattle.moves.specs.Tallied.{qcOf}
+use Rattle.moves.specs.Moves.{advanced, taken_qc}
+use Rattle.moves.specs.Tallied.{qc_of}
 use Rattle.moves.proofs.MoveLaws.{Keeps, keeps-none, keeps_then, advanced-keeps, taken-keeps}
-use Rattle.aggregator.specs.Tallies.{votesLength, timeoutsLength}
-use Rattle.handlers.specs.Sound.{Sound, first, signersOf}
+use Rattle.aggregator.specs.Tallies.{votes_length, timeouts_length}
+use Rattle.handlers.specs.Sound.{Sound, first, signers_of}
 use Rattle.handlers.specs.declared.proposals.Proposed.{Proposed}
-use Rattle.handlers.specs.Proposals.{leaderCheck, qcFound, tcNumber, proposalCheck, advancedTC, taken, payloadNumber, byPayload, proposalWith, proposalOf, Proposes}
+use Rattle.handlers.specs.Proposals.{leader_check, qc_found, tc_number, proposal_check, advanced_tc, taken, payload_number, by_payload, proposal_with, proposal_of, Proposes}
 use Rattle.handlers.proofs.HandlerLaws.{first-both, keeps-sound}
 
 -- ---- the checks
 
 pub record Passes (m : List ℕ) (b : Block) (input : List ℕ) (c : Checked) : Type 0 where
-  pub leader : leaderCheck m b ≡ 0
-  pub qc : number_of c qcRequiresQuorum ≡ 0
-  pub tc : tcNumber m b input ≡ 0
+  pub leader : leader_check m b ≡ 0
+  pub qc : number_of c qc_requires_quorum ≡ 0
+  pub tc : tc_number m b input ≡ 0
 
-pub checks-passed : (m : List ℕ) (b : Block) (input : List ℕ) (qc : Checked) → proposalCheck m b input qc ≡ 0 → Passes m b input qc
-unfolding proposalCheck
+pub checks-passed : (m : List ℕ) (b : Block) (input : List ℕ) (qc : Checked) → proposal_check m b input qc ≡ 0 → Passes m b input qc
+unfolding proposal_check
 checks-passed m b input qc e =
-    let x = first-both (leaderCheck m b) (first (number_of qc qcRequiresQuorum) (tcNumber m b input)) e in
-    let y = first-both (number_of qc qcRequiresQuorum) (tcNumber m b input) x.1 in
+    let x = first-both (leader_check m b) (first (number_of qc qc_requires_quorum) (tc_number m b input)) e in
+    let y = first-both (number_of qc qc_requires_quorum) (tc_number m b input) x.1 in
     record { leader = x.0; qc = y.0; tc = y.1 }
 
-from-leader : (t : Bool) (n : ℕ) → cond t n wrongLeader ≡ 0 → (t ≡ true) × (n ≡ 0)
+from-leader : (t : Bool) (n : ℕ) → cond t n wrong_leader ≡ 0 → (t ≡ true) × (n ≡ 0)
 from-leader true n e = (refl, e)
 from-leader false n e = absurd (omega arith)
 
 -- the author leads the block's round, and passed its own check
-pub leader-passed : (m : List ℕ) (b : Block) → leaderCheck m b ≡ 0 → (leaderOf m b.round.0 ≡ b.author.0) × (authorNumber (authorCheck m b.author.0 b.verdict) ≡ 0)
-unfolding leaderCheck
+pub leader-passed : (m : List ℕ) (b : Block) → leader_check m b ≡ 0 → (leader_of m b.round.0 ≡ b.author.0) × (author_number (author_check m b.author.0 b.verdict) ≡ 0)
+unfolding leader_check
 leader-passed m b e =
-    let x = from-leader (eqb (leaderOf m b.round.0) b.author.0) (authorNumber (authorCheck m b.author.0 b.verdict)) e in
+    let x = from-leader (eqb (leader_of m b.round.0) b.author.0) (author_number (author_check m b.author.0 b.verdict)) e in
     (eqb-true _ _ x.0, x.1)
 
 -- ---- what a proposal leaves
 
 module _ (m : List ℕ) (s : State) (b : Block) (input : List ℕ) (payload : ℕ) where
-  from-going : (t : Bool) (n : ℕ) (a : Step) → (cond t (byPayload payload a) (record { goesOn = false; out = refused n s })).goesOn ≡ true
-      → (cond t (byPayload payload a) (record { goesOn = false; out = refused n s })).out ≡ done 0 a
-  unfolding byPayload payloadNumber
+  from-going : (t : Bool) (n : ℕ) (a : Step) → (cond t (by_payload payload a) (record { goes_on = false; out = refused n s })).goes_on ≡ true
+      → (cond t (by_payload payload a) (record { goes_on = false; out = refused n s })).out ≡ done 0 a
+  unfolding by_payload payload_number
   from-going true n a h = rw h
   from-going false n a h = absurd (let z : ◌≡◌ {A = ℕ} 0 1 = cc in omega arith)
 
   -- a block that goes on: its certificates were taken, and nothing is refused
-  pub proposal-goes-on : (proposalOf m s b input payload).goesOn ≡ true → (proposalOf m s b input payload).out ≡ done 0 (taken s b (signersOf (qcFound m input)))
-  unfolding proposalOf proposalWith
-  proposal-goes-on h = from-going (eqb (proposalCheck m b input (qcFound m input)) 0) (proposalCheck m b input (qcFound m input)) (taken s b (signersOf (qcFound m input))) h
+  pub proposal-goes-on : (proposal_of m s b input payload).goes_on ≡ true → (proposal_of m s b input payload).out ≡ done 0 (taken s b (signers_of (qc_found m input)))
+  unfolding proposal_of proposal_with
+  proposal-goes-on h = from-going (eqb (proposal_check m b input (qc_found m input)) 0) (proposal_check m b input (qc_found m input)) (taken s b (signers_of (qc_found m input))) h
 
-  from-gone : (t : Bool) (n : ℕ) (a : Step) → (cond t (byPayload payload a) (record { goesOn = false; out = refused n s })).goesOn ≡ true → t ≡ true
+  from-gone : (t : Bool) (n : ℕ) (a : Step) → (cond t (by_payload payload a) (record { goes_on = false; out = refused n s })).goes_on ≡ true → t ≡ true
   from-gone true n a h = refl
   from-gone false n a h = h
 
   -- .. and every check was passed
-  pub proposal-passed : (proposalOf m s b input payload).goesOn ≡ true → proposalCheck m b input (qcFound m input) ≡ 0
-  unfolding proposalOf proposalWith
+  pub proposal-passed : (proposal_of m s b input payload).goes_on ≡ true → proposal_check m b input (qc_found m input) ≡ 0
+  unfolding proposal_of proposal_with
   proposal-passed h =
-      eqb-true _ 0 (from-gone (eqb (proposalCheck m b input (qcFound m input)) 0) (proposalCheck m b input (qcFound m input)) (taken s b (signersOf (qcFound m input))) h)
+      eqb-true _ 0 (from-gone (eqb (proposal_check m b input (qc_found m input)) 0) (proposal_check m b input (qc_found m input)) (taken s b (signers_of (qc_found m input))) h)
 
   -- once the checks are passed the certificates are taken, whatever the payload
-  pub proposal-takes : proposalCheck m b input (qcFound m input) ≡ 0 → proposalOf m s b input payload ≡ byPayload payload (taken s b (signersOf (qcFound m input)))
-  unfolding proposalOf proposalWith
+  pub proposal-takes : proposal_check m b input (qc_found m input) ≡ 0 → proposal_of m s b input payload ≡ by_payload payload (taken s b (signers_of (qc_found m input)))
+  unfolding proposal_of proposal_with
   proposal-takes h = rw (eq-eqb _ 0 h)
 
   -- an early refusal leaves the state, and writes nothing
-  pub proposal-refused : (proposalCheck m b input (qcFound m input) ≡ 0 → ⊥) → proposalOf m s b input payload ≡ record { goesOn = false; out = refused (proposalCheck m b input (qcFound m input)) s }
-  unfolding proposalOf proposalWith
+  pub proposal-refused : (proposal_check m b input (qc_found m input) ≡ 0 → ⊥) → proposal_of m s b input payload ≡ record { goes_on = false; out = refused (proposal_check m b input (qc_found m input)) s }
+  unfolding proposal_of proposal_with
   proposal-refused h = rw (ne_eqb _ 0 h)
 
-  among : (t u : Bool) → let n = cond t 0 (cond u waitPayload invalidPayload) in (n ≡ 0 → ⊥) → (n ≡ waitPayload → ⊥) → (n ≡ invalidPayload → ⊥) → ⊥
+  among : (t u : Bool) → let n = cond t 0 (cond u wait_payload invalid_payload) in (n ≡ 0 → ⊥) → (n ≡ wait_payload → ⊥) → (n ≡ invalid_payload → ⊥) → ⊥
   among true u h i j = h refl
   among false true h i j = i refl
   among false false h i j = j refl
 
-  from-early : (t : Bool) (n : ℕ) (a : Step) → let o = (cond t (byPayload payload a) (record { goesOn = false; out = refused n s })).out in
-      (o.answer ≡ 0 → ⊥) → (o.answer ≡ waitPayload → ⊥) → (o.answer ≡ invalidPayload → ⊥) → o.left ≡ quiet s
-  unfolding byPayload payloadNumber
+  from-early : (t : Bool) (n : ℕ) (a : Step) → let o = (cond t (by_payload payload a) (record { goes_on = false; out = refused n s })).out in
+      (o.answer ≡ 0 → ⊥) → (o.answer ≡ wait_payload → ⊥) → (o.answer ≡ invalid_payload → ⊥) → o.left ≡ quiet s
+  unfolding by_payload payload_number
   from-early true n a h i j = absurd (among (eqb payload 1) (eqb payload 0) h i j)
   from-early false n a h i j = refl
 
   -- by the answer: any but DONE, WAIT PAYLOAD and payload invalid is early
-  pub proposal-early : ((proposalOf m s b input payload).out.answer ≡ 0 → ⊥) → ((proposalOf m s b input payload).out.answer ≡ waitPayload → ⊥)
-      → ((proposalOf m s b input payload).out.answer ≡ invalidPayload → ⊥) → (proposalOf m s b input payload).out.left ≡ quiet s
-  unfolding proposalOf proposalWith
-  proposal-early h i j = from-early (eqb (proposalCheck m b input (qcFound m input)) 0) (proposalCheck m b input (qcFound m input)) (taken s b (signersOf (qcFound m input))) h i j
+  pub proposal-early : ((proposal_of m s b input payload).out.answer ≡ 0 → ⊥) → ((proposal_of m s b input payload).out.answer ≡ wait_payload → ⊥)
+      → ((proposal_of m s b input payload).out.answer ≡ invalid_payload → ⊥) → (proposal_of m s b input payload).out.left ≡ quiet s
+  unfolding proposal_of proposal_with
+  proposal-early h i j = from-early (eqb (proposal_check m b input (qc_found m input)) 0) (proposal_check m b input (qc_found m input)) (taken s b (signers_of (qc_found m input))) h i j
 
 -- what the code that handles a proposal did, where the block goes on
 pub proposes-on : {k at : ℕ} {r : Proposed} {out v t out' : List ℕ} (m : List ℕ) (s : State) (b : Block) (input : List ℕ) (payload : ℕ)
-    → Proposes k (proposalOf m s b input payload) out at r v t out' → r.goes_on ≡ true → Did k (taken s b (signersOf (qcFound m input))) out at r.core v t out' r.at
+    → Proposes k (proposal_of m s b input payload) out at r v t out' → r.goes_on ≡ true → Did k (taken s b (signers_of (qc_found m input))) out at r.core v t out' r.at
 proposes-on m s b input payload p h = rw (proposal-goes-on m s b input payload (sym p.goes ∙ h)) at p.did
 
 -- ---- what taking the certificates leaves as it was
 
-module _ (total : ℕ) (s : State) (long : length s.votes ≡ votesLength) (wide : length s.timeouts ≡ timeoutsLength) (b : Block) where
-  pub advanced-tc-keeps : Keeps total s (advancedTC b s).state
-  unfolding advancedTC
+module _ (total : ℕ) (s : State) (long : length s.votes ≡ votes_length) (wide : length s.timeouts ≡ timeouts_length) (b : Block) where
+  pub advanced-tc-keeps : Keeps total s (advanced_tc b s).state
+  unfolding advanced_tc
   advanced-tc-keeps = cases (eqb b.tc 0)
     where
       cases : (t : Bool) → Keeps total s (cond t (quiet s) (advanced s b.tc_round.0)).state
       cases true = keeps-none total s
       cases false = advanced-keeps total s long wide b.tc_round.0
 
-pub certificates-keep : (total : ℕ) (s : State) → length s.votes ≡ votesLength → length s.timeouts ≡ timeoutsLength → (b : Block) (signers : Signers)
+pub certificates-keep : (total : ℕ) (s : State) → length s.votes ≡ votes_length → length s.timeouts ≡ timeouts_length → (b : Block) (signers : Signers)
     → Keeps total s (taken s b signers).state
 unfolding taken
 certificates-keep total s long wide b signers =
-    let q = qcOf b.qc_hash b.qc_round.0 signers in
+    let q = qc_of b.qc_hash b.qc_round.0 signers in
     let k = taken-keeps total s long wide q in
-    keeps_then k (advanced-tc-keeps total (takenQC s q).state (k.votes ∙ long) (k.timeouts ∙ wide) b)
+    keeps_then k (advanced-tc-keeps total (taken_qc s q).state (k.votes ∙ long) (k.timeouts ∙ wide) b)
 
-pub proposal-keeps : (total : ℕ) (s : State) → length s.votes ≡ votesLength → length s.timeouts ≡ timeoutsLength → (m : List ℕ) (b : Block) (input : List ℕ) (payload : ℕ)
-    → Keeps total s (proposalOf m s b input payload).out.left.state
-unfolding proposalOf proposalWith byPayload
+pub proposal-keeps : (total : ℕ) (s : State) → length s.votes ≡ votes_length → length s.timeouts ≡ timeouts_length → (m : List ℕ) (b : Block) (input : List ℕ) (payload : ℕ)
+    → Keeps total s (proposal_of m s b input payload).out.left.state
+unfolding proposal_of proposal_with by_payload
 proposal-keeps total s long wide m b input payload =
-    cases (eqb (proposalCheck m b input (qcFound m input)) 0) (proposalCheck m b input (qcFound m input)) (taken s b (signersOf (qcFound m input))) (certificates-keep total s long wide b (signersOf (qcFound m input)))
+    cases (eqb (proposal_check m b input (qc_found m input)) 0) (proposal_check m b input (qc_found m input)) (taken s b (signers_of (qc_found m input))) (certificates-keep total s long wide b (signers_of (qc_found m input)))
   where
     cases : (t : Bool) (n : ℕ) (a : Step) → Keeps total s a.state
-        → Keeps total s (cond t (byPayload payload a) (record { goesOn = false; out = refused n s })).out.left.state
+        → Keeps total s (cond t (by_payload payload a) (record { goes_on = false; out = refused n s })).out.left.state
     cases true n a k = k
     cases false n a k = keeps-none total s
 
-module _ (s : State) (long : length s.votes ≡ votesLength) (wide : length s.timeouts ≡ timeoutsLength) (b : Block) where
-  pub advanced-tc-committed : (advancedTC b s).state.core.last_committed_round ≡ s.core.last_committed_round
+module _ (s : State) (long : length s.votes ≡ votes_length) (wide : length s.timeouts ≡ timeouts_length) (b : Block) where
+  pub advanced-tc-committed : (advanced_tc b s).state.core.last_committed_round ≡ s.core.last_committed_round
   advanced-tc-committed = (advanced-tc-keeps 0 s long wide b).committed
 
   pub taken-committed : (signers : Signers) → (taken s b signers).state.core.last_committed_round ≡ s.core.last_committed_round
@@ -155,4 +155,4 @@ module _ (s : State) (long : length s.votes ≡ votesLength) (wide : length s.ti
 pub taken-sound : {m votes timeouts v t : List ℕ} {own : ℕ} {c : Core} (core : Core) (b : Block) (signers : Signers) → Sound m own votes timeouts
     → whole c v t ≡ (taken (whole core votes timeouts) b signers).state → Sound m own v t
 taken-sound {votes = votes} {timeouts = timeouts} {v = v} {t = t} {c = c} core b signers k e =
-    keeps-sound {s = whole core votes timeouts} {s' = whole c v t} (rw e (certificates-keep totalMax (whole core votes timeouts) k.long k.wide b signers)) k
+    keeps-sound {s = whole core votes timeouts} {s' = whole c v t} (rw e (certificates-keep total_max (whole core votes timeouts) k.long k.wide b signers)) k

@@ -8,66 +8,66 @@ use mathlib.Core.List.{List}
 use mathlib.Core.Path.{◌≡◌, refl}
 use borrow.Author.Tests.{ne_eqb, lt-ltb, le-ltb}
 use Rattle.certificates.specs.declared.messages.Authored.{Authored}
-use Rattle.certificates.specs.Config.{stakeOf, quorumOf}
-use Rattle.certificates.specs.Messages.{authorCheck}
-use Rattle.certificates.specs.Error.{roundTooHigh, authorNumber}
-use Rattle.certificates.specs.Numbers.{roundMax}
-use Rattle.outputs.specs.Records.{timerReset, timeout, enc, timerResetSize, timeoutSize}
+use Rattle.certificates.specs.Config.{stake_of, quorum_of}
+use Rattle.certificates.specs.Messages.{author_check}
+use Rattle.certificates.specs.Error.{round_too_high, author_number}
+use Rattle.certificates.specs.Numbers.{round_max}
+use Rattle.outputs.specs.Records.{timer_reset, timeout, enc, timer_reset_size, timeout_size}
 use Rattle.outputs.specs.Put.{Put}
 use Rattle.outputs.proofs.Wrote.{wrote_one, wrote_then}
 use Rattle.moves.specs.declared.state.Core.{Core}
 use Rattle.moves.specs.declared.state.Ran.{Ran}
-use Rattle.moves.specs.State.{whole, withVoted}
+use Rattle.moves.specs.State.{whole, with_voted}
 use Rattle.moves.specs.Outcome.{Reached}
-use Rattle.moves.specs.Moves.{timeOutMost}
-use Rattle.moves.specs.Tallied.{timeoutTallied}
+use Rattle.moves.specs.Moves.{time_out_most}
+use Rattle.moves.specs.Tallied.{timeout_tallied}
 use Rattle.moves.proofs.Outcomes.{reached-refused, reached-after}
-use Rattle.handlers.specs.Timeouts.{votedUp, TicksTo, ownTimeout, handledTick, localTimeoutMost}
+use Rattle.handlers.specs.Timeouts.{voted_up, TicksTo, own_timeout, handled_tick, local_timeout_most}
 
 -- ---- the first part of a tick
 
 module _ (core : Core) (target : ℕ) where
-  pub voted-rises : core.last_voted_round.0 < target → (withVoted core target ≡ votedUp core target) × (core.round ≡ core.round)
-  unfolding votedUp
+  pub voted-rises : core.last_voted_round.0 < target → (with_voted core target ≡ voted_up core target) × (core.round ≡ core.round)
+  unfolding voted_up
   voted-rises h = (rw (lt-ltb _ _ h), refl)
 
-  pub voted-stays : target ≤ core.last_voted_round.0 → (core ≡ votedUp core target) × (core.round ≡ core.round)
-  unfolding votedUp
+  pub voted-stays : target ≤ core.last_voted_round.0 → (core ≡ voted_up core target) × (core.round ≡ core.round)
+  unfolding voted_up
   voted-stays h = (rw (le-ltb _ _ h), refl)
 
-pub tick-did : (core : Core) {out out' out'' : List ℕ} {at mid next : ℕ} {n : Core} → Put out at timerResetSize (enc timerReset) out' mid
-    → Put out' mid timeoutSize (enc (timeout core.round.0 core.high_qc)) out'' next → n ≡ votedUp core core.round.0 → n.round ≡ core.round
+pub tick-did : (core : Core) {out out' out'' : List ℕ} {at mid next : ℕ} {n : Core} → Put out at timer_reset_size (enc timer_reset) out' mid
+    → Put out' mid timeout_size (enc (timeout core.round.0 core.high_qc)) out'' next → n ≡ voted_up core core.round.0 → n.round ≡ core.round
     → TicksTo core out at n out'' next
 tick-did core p q e r =
-    record { raised = e; stays = r; bytes = wrote_then (wrote_one timerReset p) (wrote_one (timeout core.round.0 core.high_qc) q) }
+    record { raised = e; stays = r; bytes = wrote_then (wrote_one timer_reset p) (wrote_one (timeout core.round.0 core.high_qc) q) }
 
 -- a tick leaves the round
-pub tick-within : {core n : Core} {out out' : List ℕ} {at next : ℕ} → TicksTo core out at n out' next → core.round.0 ≤ roundMax → n.round.0 ≤ roundMax
+pub tick-within : {core n : Core} {out out' : List ℕ} {at next : ℕ} → TicksTo core out at n out' next → core.round.0 ≤ round_max → n.round.0 ≤ round_max
 tick-within p h = rw p.stays h
 
 -- ---- the own timeout
 
-module _ (m : List ℕ) (own : ℕ) (core : Core) (votes timeouts out : List ℕ) (at : ℕ) {n : ℕ} {a : Authored} (e : a ≡ authorCheck m own 1) (f : n ≡ authorNumber a) where
-  pub own-refused : (n ≡ 0 → ⊥) → Reached timeOutMost (ownTimeout m own (whole core votes timeouts)) out at (record { answer = n; core = core; at = at }) votes timeouts out
-  unfolding ownTimeout
-  own-refused h = rw (← e, ← f, ne_eqb _ _ h) (reached-refused timeOutMost n core votes timeouts out at)
+module _ (m : List ℕ) (own : ℕ) (core : Core) (votes timeouts out : List ℕ) (at : ℕ) {n : ℕ} {a : Authored} (e : a ≡ author_check m own 1) (f : n ≡ author_number a) where
+  pub own-refused : (n ≡ 0 → ⊥) → Reached time_out_most (own_timeout m own (whole core votes timeouts)) out at (record { answer = n; core = core; at = at }) votes timeouts out
+  unfolding own_timeout
+  own-refused h = rw (← e, ← f, ne_eqb _ _ h) (reached-refused time_out_most n core votes timeouts out at)
 
-  pub own-tallied : {need stake : ℕ} {r : Ran} {v t out' : List ℕ} → n ≡ 0 → need ≡ quorumOf m → stake ≡ stakeOf m own
-      → Reached timeOutMost (timeoutTallied m own need (whole core votes timeouts) core.round.0 own stake core.high_qc.round.0) out at r v t out'
-      → Reached timeOutMost (ownTimeout m own (whole core votes timeouts)) out at r v t out'
-  unfolding ownTimeout
+  pub own-tallied : {need stake : ℕ} {r : Ran} {v t out' : List ℕ} → n ≡ 0 → need ≡ quorum_of m → stake ≡ stake_of m own
+      → Reached time_out_most (timeout_tallied m own need (whole core votes timeouts) core.round.0 own stake core.high_qc.round.0) out at r v t out'
+      → Reached time_out_most (own_timeout m own (whole core votes timeouts)) out at r v t out'
+  unfolding own_timeout
   own-tallied z g h d = rw (← e, ← f, z, ← g, ← h) d
 
 -- ---- the handler
 
 module _ (m : List ℕ) (own : ℕ) (core : Core) (votes timeouts out : List ℕ) where
-  pub tick-high : roundMax < core.round.0
-      → Reached localTimeoutMost (handledTick m own (whole core votes timeouts)) out 0 (record { answer = roundTooHigh; core = core; at = 0 }) votes timeouts out
-  unfolding handledTick
-  tick-high h = rw (lt-ltb _ _ h) (reached-refused localTimeoutMost roundTooHigh core votes timeouts out 0)
+  pub tick-high : round_max < core.round.0
+      → Reached local_timeout_most (handled_tick m own (whole core votes timeouts)) out 0 (record { answer = round_too_high; core = core; at = 0 }) votes timeouts out
+  unfolding handled_tick
+  tick-high h = rw (lt-ltb _ _ h) (reached-refused local_timeout_most round_too_high core votes timeouts out 0)
 
-  pub tick-after : {n : Core} {mid : ℕ} {r : Ran} {out' out'' v t : List ℕ} → core.round.0 ≤ roundMax → TicksTo core out 0 n out' mid
-      → Reached timeOutMost (ownTimeout m own (whole n votes timeouts)) out' mid r v t out''
-      → Reached localTimeoutMost (handledTick m own (whole core votes timeouts)) out 0 r v t out''
-  unfolding handledTick
-  tick-after h p q = rw (le-ltb _ _ h) (reached-after (ownTimeout m own) (record { state = rw p.raised; bytes = p.bytes }) q)
+  pub tick-after : {n : Core} {mid : ℕ} {r : Ran} {out' out'' v t : List ℕ} → core.round.0 ≤ round_max → TicksTo core out 0 n out' mid
+      → Reached time_out_most (own_timeout m own (whole n votes timeouts)) out' mid r v t out''
+      → Reached local_timeout_most (handled_tick m own (whole core votes timeouts)) out 0 r v t out''
+  unfolding handled_tick
+  tick-after h p q = rw (le-ltb _ _ h) (reached-after (own_timeout m own) (record { state = rw p.raised; bytes = p.bytes }) q)

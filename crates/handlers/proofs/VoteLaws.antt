@@ -13,56 +13,56 @@ use borrow.Author.Tests.{eq-eqb, ne_eqb, lt-ltb, le-ltb}
 use lib.Dec.{ltb, leb, eqb}
 use lib.ListN.{length}
 use Rattle.certificates.specs.declared.messages.Authored.{Authored}
-use Rattle.certificates.specs.Config.{stakeOf, quorumOf}
-use Rattle.certificates.specs.Leader.{leaderOf}
-use Rattle.certificates.specs.Messages.{authorCheck}
-use Rattle.certificates.specs.Error.{authorNumber}
+use Rattle.certificates.specs.Config.{stake_of, quorum_of}
+use Rattle.certificates.specs.Leader.{leader_of}
+use Rattle.certificates.specs.Messages.{author_check}
+use Rattle.certificates.specs.Error.{author_number}
 use Rattle.trace.specs.declared.events.Vote.{Vote}
 use Rattle.trace.specs.declared.events.Block.{Block}
 use Rattle.outputs.specs.Put.{Put}
-use Rattle.outputs.specs.Records.{vote, voteSize, enc}
+use Rattle.outputs.specs.Records.{vote, vote_size, enc}
 use Rattle.outputs.proofs.Wrote.{wrote_one}
 use Rattle.moves.specs.declared.state.Core.{Core}
 use Rattle.moves.specs.declared.state.Ran.{Ran}
-use Rattle.moves.specs.State.{State, whole, withVoted}
+use Rattle.moves.specs.State.{State, whole, with_voted}
 use Rattle.moves.specs.Outcome.{quiet, done, Reached}
-use Rattle.moves.specs.Moves.{certifyMost}
-use Rattle.moves.specs.Tallied.{voteTallied}
+use Rattle.moves.specs.Moves.{certify_most}
+use Rattle.moves.specs.Tallied.{vote_tallied}
 use Rattle.moves.proofs.Outcomes.{did-wrote, reached-refused, reached-after, reached-checked-refused, reached-checked-passed}
-use Rattle.handlers.specs.Votes.{voteCheck, handledVote, extends, mayVote, ownVote, voted, voting, votingMost}
+use Rattle.handlers.specs.Votes.{vote_check, handled_vote, extends, may_vote, own_vote, voted, voting, voting_most}
 use Rattle.handlers.proofs.HandlerLaws.{author-member}
 
 -- ---- the checks of VOTE
 
 module _ (m : List ℕ) (current : ℕ) (v : Vote) where
-  pub vote-stale : v.round.0 < current → 1 ≡ voteCheck m current v
-  unfolding voteCheck
+  pub vote-stale : v.round.0 < current → 1 ≡ vote_check m current v
+  unfolding vote_check
   vote-stale h = rw (lt-ltb _ _ h)
 
   module _ {n : ℕ} where
-    pub vote-author : {a : Authored} → current ≤ v.round.0 → a ≡ authorCheck m v.author.0 v.verdict → n ≡ authorNumber a → n ≡ voteCheck m current v
-    unfolding voteCheck
+    pub vote-author : {a : Authored} → current ≤ v.round.0 → a ≡ author_check m v.author.0 v.verdict → n ≡ author_number a → n ≡ vote_check m current v
+    unfolding vote_check
     vote-author h e f = rw (le-ltb _ _ h, ← e) f
 
   from-vote : (b : Bool) (x : ℕ) → cond b 1 x ≡ 0 → x ≡ 0
   from-vote true x e = absurd (omega arith)
   from-vote false x e = e
 
-  pub vote-member : {n : ℕ} → n ≡ voteCheck m current v → n ≡ 0 → v.author.0 < length m
-  unfolding voteCheck
+  pub vote-member : {n : ℕ} → n ≡ vote_check m current v → n ≡ 0 → v.author.0 < length m
+  unfolding vote_check
   vote-member e z = author-member m v.author.0 v.verdict (from-vote (ltb v.round.0 current) _ (sym e ∙ z))
 
 -- ---- VOTE
 
-module _ (m : List ℕ) (own : ℕ) (core : Core) (votes timeouts out : List ℕ) (v : Vote) {n : ℕ} (e : n ≡ voteCheck m core.round.0 v) where
-  pub vote-refused : (n ≡ 0 → ⊥) → Reached certifyMost (handledVote m own (whole core votes timeouts) v) out 0 (record { answer = n; core = core; at = 0 }) votes timeouts out
-  unfolding handledVote
-  vote-refused h = rw (← e) (reached-checked-refused certifyMost n core votes timeouts out 0 _ h)
+module _ (m : List ℕ) (own : ℕ) (core : Core) (votes timeouts out : List ℕ) (v : Vote) {n : ℕ} (e : n ≡ vote_check m core.round.0 v) where
+  pub vote-refused : (n ≡ 0 → ⊥) → Reached certify_most (handled_vote m own (whole core votes timeouts) v) out 0 (record { answer = n; core = core; at = 0 }) votes timeouts out
+  unfolding handled_vote
+  vote-refused h = rw (← e) (reached-checked-refused certify_most n core votes timeouts out 0 _ h)
 
-  pub vote-passed : {need stake : ℕ} {r : Ran} {v' t' out' : List ℕ} → n ≡ 0 → need ≡ quorumOf m → stake ≡ stakeOf m v.author.0
-      → Reached certifyMost (voteTallied m own need (whole core votes timeouts) v.hash v.round.0 v.author.0 stake) out 0 r v' t' out'
-      → Reached certifyMost (handledVote m own (whole core votes timeouts) v) out 0 r v' t' out'
-  unfolding handledVote
+  pub vote-passed : {need stake : ℕ} {r : Ran} {v' t' out' : List ℕ} → n ≡ 0 → need ≡ quorum_of m → stake ≡ stake_of m v.author.0
+      → Reached certify_most (vote_tallied m own need (whole core votes timeouts) v.hash v.round.0 v.author.0 stake) out 0 r v' t' out'
+      → Reached certify_most (handled_vote m own (whole core votes timeouts) v) out 0 r v' t' out'
+  unfolding handled_vote
   vote-passed z q s h = rw (← e, ← q, ← s) (reached-checked-passed n (whole core votes timeouts) z h)
 
 -- ---- the voting rules
@@ -87,66 +87,66 @@ module _ (b : Block) where
       extends-other h = rw (ne_eqb _ _ n, ne_eqb _ _ some, ne_eqb _ _ h)
 
   module _ (c : Core) where
-    pub may-new : {t : Bool} → c.last_voted_round.0 < b.round.0 → t ≡ extends b → t ≡ mayVote c b
-    unfolding mayVote
+    pub may-new : {t : Bool} → c.last_voted_round.0 < b.round.0 → t ≡ extends b → t ≡ may_vote c b
+    unfolding may_vote
     may-new h e = rw (lt-ltb _ _ h) e
 
-    pub may-old : b.round.0 ≤ c.last_voted_round.0 → false ≡ mayVote c b
-    unfolding mayVote
+    pub may-old : b.round.0 ≤ c.last_voted_round.0 → false ≡ may_vote c b
+    unfolding may_vote
     may-old h = rw (le-ltb _ _ h)
 
 -- ---- the own vote
 
-module _ (m : List ℕ) (own : ℕ) (core : Core) (votes timeouts out : List ℕ) (at : ℕ) (b : Block) {n : ℕ} {a : Authored} (e : a ≡ authorCheck m own 1) (f : n ≡ authorNumber a) where
-  own-number : n ≡ authorNumber (authorCheck m own 1)
+module _ (m : List ℕ) (own : ℕ) (core : Core) (votes timeouts out : List ℕ) (at : ℕ) (b : Block) {n : ℕ} {a : Authored} (e : a ≡ author_check m own 1) (f : n ≡ author_number a) where
+  own-number : n ≡ author_number (author_check m own 1)
   own-number = rw (← e) f
 
-  pub own-vote-refused : (n ≡ 0 → ⊥) → Reached certifyMost (ownVote m own b (whole core votes timeouts)) out at (record { answer = n; core = core; at = at }) votes timeouts out
-  unfolding ownVote
-  own-vote-refused h = rw (← own-number) (reached-checked-refused certifyMost n core votes timeouts out at _ h)
+  pub own-vote-refused : (n ≡ 0 → ⊥) → Reached certify_most (own_vote m own b (whole core votes timeouts)) out at (record { answer = n; core = core; at = at }) votes timeouts out
+  unfolding own_vote
+  own-vote-refused h = rw (← own-number) (reached-checked-refused certify_most n core votes timeouts out at _ h)
 
-  pub own-vote-passed : {need stake : ℕ} {r : Ran} {v' t' out' : List ℕ} → n ≡ 0 → need ≡ quorumOf m → stake ≡ stakeOf m own
-      → Reached certifyMost (voteTallied m own need (whole core votes timeouts) b.digest b.round.0 own stake) out at r v' t' out'
-      → Reached certifyMost (ownVote m own b (whole core votes timeouts)) out at r v' t' out'
-  unfolding ownVote
+  pub own-vote-passed : {need stake : ℕ} {r : Ran} {v' t' out' : List ℕ} → n ≡ 0 → need ≡ quorum_of m → stake ≡ stake_of m own
+      → Reached certify_most (vote_tallied m own need (whole core votes timeouts) b.digest b.round.0 own stake) out at r v' t' out'
+      → Reached certify_most (own_vote m own b (whole core votes timeouts)) out at r v' t' out'
+  unfolding own_vote
   own-vote-passed z q s h = rw (← own-number, ← q, ← s) (reached-checked-passed n (whole core votes timeouts) z h)
 
 -- ---- VOTE is written
 
 module _ (m : List ℕ) (own : ℕ) (core : Core) (votes timeouts : List ℕ) (b : Block) {out out' : List ℕ} {at end l : ℕ}
-    (e : l ≡ leaderOf m (b.round.0 + 1)) (p : Put out at voteSize (enc (vote l b.digest b.round.0)) out' end) where
+    (e : l ≡ leader_of m (b.round.0 + 1)) (p : Put out at vote_size (enc (vote l b.digest b.round.0)) out' end) where
   -- VOTE is written; then this was reached
   after-sent : {r : Ran} {v' t' out'' : List ℕ}
-      → Reached certifyMost (cond (eqb l own) (ownVote m own b (whole (withVoted core b.round.0) votes timeouts)) (done 0 (quiet (whole (withVoted core b.round.0) votes timeouts)))) out' end r v' t' out''
-      → Reached votingMost (voted m own b (whole core votes timeouts)) out at r v' t' out''
+      → Reached certify_most (cond (eqb l own) (own_vote m own b (whole (with_voted core b.round.0) votes timeouts)) (done 0 (quiet (whole (with_voted core b.round.0) votes timeouts)))) out' end r v' t' out''
+      → Reached voting_most (voted m own b (whole core votes timeouts)) out at r v' t' out''
   unfolding voted
   after-sent q =
       rw (← e)
-      (reached-after (λ (t : State). cond (eqb l own) (ownVote m own b t) (done 0 (quiet t)))
-      (did-wrote (withVoted core b.round.0) votes timeouts (wrote_one (vote l b.digest b.round.0) p)) q)
+      (reached-after (λ (t : State). cond (eqb l own) (own_vote m own b t) (done 0 (quiet t)))
+      (did-wrote (with_voted core b.round.0) votes timeouts (wrote_one (vote l b.digest b.round.0) p)) q)
 
   pub sent-counted : {r : Ran} {v' t' out'' : List ℕ} → l ≡ own
-      → Reached certifyMost (ownVote m own b (whole (withVoted core b.round.0) votes timeouts)) out' end r v' t' out''
-      → Reached votingMost (voted m own b (whole core votes timeouts)) out at r v' t' out''
+      → Reached certify_most (own_vote m own b (whole (with_voted core b.round.0) votes timeouts)) out' end r v' t' out''
+      → Reached voting_most (voted m own b (whole core votes timeouts)) out at r v' t' out''
   sent-counted h q = after-sent (rw (eq-eqb _ _ h) q)
 
   pub sent : (l ≡ own → ⊥)
-      → Reached votingMost (voted m own b (whole core votes timeouts)) out at (record { answer = 0; core = withVoted core b.round.0; at = end }) votes timeouts out'
-  sent h = after-sent (rw (ne_eqb _ _ h) (reached-refused certifyMost 0 (withVoted core b.round.0) votes timeouts out' end))
+      → Reached voting_most (voted m own b (whole core votes timeouts)) out at (record { answer = 0; core = with_voted core b.round.0; at = end }) votes timeouts out'
+  sent h = after-sent (rw (ne_eqb _ _ h) (reached-refused certify_most 0 (with_voted core b.round.0) votes timeouts out' end))
 
 -- ---- the vote for a block
 
 module _ (m : List ℕ) (own : ℕ) (core : Core) (votes timeouts out : List ℕ) (at : ℕ) (b : Block) where
-  pub voting-past : (b.round.0 ≡ core.round.0 → ⊥) → Reached votingMost (voting m own b (whole core votes timeouts)) out at (record { answer = 0; core = core; at = at }) votes timeouts out
+  pub voting-past : (b.round.0 ≡ core.round.0 → ⊥) → Reached voting_most (voting m own b (whole core votes timeouts)) out at (record { answer = 0; core = core; at = at }) votes timeouts out
   unfolding voting
-  voting-past h = rw (ne_eqb _ _ h) (reached-refused votingMost 0 core votes timeouts out at)
+  voting-past h = rw (ne_eqb _ _ h) (reached-refused voting_most 0 core votes timeouts out at)
 
-  module _ (now : b.round.0 ≡ core.round.0) {t : Bool} (e : t ≡ mayVote core b) where
-    pub voting-not : t ≡ false → Reached votingMost (voting m own b (whole core votes timeouts)) out at (record { answer = 0; core = core; at = at }) votes timeouts out
+  module _ (now : b.round.0 ≡ core.round.0) {t : Bool} (e : t ≡ may_vote core b) where
+    pub voting-not : t ≡ false → Reached voting_most (voting m own b (whole core votes timeouts)) out at (record { answer = 0; core = core; at = at }) votes timeouts out
     unfolding voting
-    voting-not h = rw (eq-eqb _ _ now, ← e, h) (reached-refused votingMost 0 core votes timeouts out at)
+    voting-not h = rw (eq-eqb _ _ now, ← e, h) (reached-refused voting_most 0 core votes timeouts out at)
 
-    pub voting-voted : {r : Ran} {v' t' out' : List ℕ} → t ≡ true → Reached votingMost (voted m own b (whole core votes timeouts)) out at r v' t' out'
-        → Reached votingMost (voting m own b (whole core votes timeouts)) out at r v' t' out'
+    pub voting-voted : {r : Ran} {v' t' out' : List ℕ} → t ≡ true → Reached voting_most (voted m own b (whole core votes timeouts)) out at r v' t' out'
+        → Reached voting_most (voting m own b (whole core votes timeouts)) out at r v' t' out'
     unfolding voting
     voting-voted h q = rw (eq-eqb _ _ now, ← e, h) q

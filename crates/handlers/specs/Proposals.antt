@@ -1,92 +1,92 @@
 -- 01, Events: PROPOSE, up to its payload. m is the committee, s the state, b the block, r the record's bytes.
---     leaderCheck m b                       leader; author stake; verdict
---     qcFound m r                           what the check of the block's QC finds
---     tcNumber m b r                        the number of its TC's check
---     proposalCheck m b r qc                the checks in 01's order: the number of the first that is not passed, or 0
---     advancedTC b s                        advance by TC
+--     leader_check m b                       leader; author stake; verdict
+--     qc_found m r                           what the check of the block's QC finds
+--     tc_number m b r                        the number of its TC's check
+--     proposal_check m b r qc                the checks in 01's order: the number of the first that is not passed, or 0
+--     advanced_tc b s                        advance by TC
 --     taken s b signers                     take QC; advance by TC
 --     Proposal                              an outcome before the table of blocks, and whether the block goes on to it
---     payloadNumber, byPayload payload a    what the payload's verdict makes of a block whose certificates were taken
---     proposalOf m s b r payload            what a proposal does
+--     payload_number, by_payload payload a    what the payload's verdict makes of a block whose certificates were taken
+--     proposal_of m s b r payload            what a proposal does
 --     Proposes k p ..                       what code did, against such a definition
---     refusedAs core n, payloadAs a payload     what code hands on of a proposal that is refused early, and of one that is not
---     takenMost                             the most bytes that a proposal writes
+--     refused_as core n, payload_as a payload     what code hands on of a proposal that is refused early, and of one that is not
+--     taken_most                             the most bytes that a proposal writes
 use Rattle.std.specs.Prelude.{ℕ, ◌+◌, Bool, false, cond, List, ◌≡◌, eqb}
 use Rattle.certificates.specs.declared.numbers.Signers.{Signers}
 use Rattle.certificates.specs.declared.messages.Checked.{Checked}
-use Rattle.certificates.specs.Config.{quorumOf}
-use Rattle.certificates.specs.Leader.{leaderOf}
-use Rattle.certificates.specs.Messages.{embeddedCheck, tcCheck, authorCheck}
-use Rattle.certificates.specs.Error.{waitPayload, wrongLeader, qcRequiresQuorum, tcRequiresQuorum, invalidPayload, number_of, authorNumber}
+use Rattle.certificates.specs.Config.{quorum_of}
+use Rattle.certificates.specs.Leader.{leader_of}
+use Rattle.certificates.specs.Messages.{embedded_check, tc_check, author_check}
+use Rattle.certificates.specs.Error.{wait_payload, wrong_leader, qc_requires_quorum, tc_requires_quorum, invalid_payload, number_of, author_number}
 use Rattle.trace.specs.declared.events.Block.{Block}
-use Rattle.trace.specs.Layout.{blockQC, qcPart, tcPart}
+use Rattle.trace.specs.Layout.{block_qc, qc_part, tc_part}
 use Rattle.moves.specs.declared.state.Core.{Core}
 use Rattle.moves.specs.declared.state.Moved.{Moved}
 use Rattle.moves.specs.State.{State}
 use Rattle.moves.specs.Outcome.{Step, Outcome, quiet, and_then, done, refused, Did}
-use Rattle.moves.specs.Moves.{advanced, takenQC, advanceMost}
-use Rattle.moves.specs.Tallied.{qcOf}
-use Rattle.handlers.specs.Sound.{first, signersOf}
+use Rattle.moves.specs.Moves.{advanced, taken_qc, advance_most}
+use Rattle.moves.specs.Tallied.{qc_of}
+use Rattle.handlers.specs.Sound.{first, signers_of}
 use Rattle.handlers.specs.declared.proposals.Proposed.{Proposed}
 
 -- "PROPOSE: leader; author stake; verdict"
-unfoldable pub leaderCheck : List ℕ → Block → ℕ
-leaderCheck m b = cond (eqb (leaderOf m b.round.0) b.author.0) (authorNumber (authorCheck m b.author.0 b.verdict)) wrongLeader
+unfoldable pub leader_check : List ℕ → Block → ℕ
+leader_check m b = cond (eqb (leader_of m b.round.0) b.author.0) (author_number (author_check m b.author.0 b.verdict)) wrong_leader
 
 -- "QC"
-abbrev pub qcFound : List ℕ → List ℕ → Checked
-qcFound m r = embeddedCheck m (quorumOf m) (qcPart r blockQC)
+abbrev pub qc_found : List ℕ → List ℕ → Checked
+qc_found m r = embedded_check m (quorum_of m) (qc_part r block_qc)
 
 -- "TC": 0 where the block has none
-unfoldable pub tcNumber : List ℕ → Block → List ℕ → ℕ
-tcNumber m b r = cond (eqb b.tc 0) 0 (number_of (tcCheck m (quorumOf m) (tcPart r b.tc)) tcRequiresQuorum)
+unfoldable pub tc_number : List ℕ → Block → List ℕ → ℕ
+tc_number m b r = cond (eqb b.tc 0) 0 (number_of (tc_check m (quorum_of m) (tc_part r b.tc)) tc_requires_quorum)
 
 -- "leader; author stake; verdict; QC; TC", in this order
-unfoldable pub proposalCheck : List ℕ → Block → List ℕ → Checked → ℕ
-proposalCheck m b r qc = first (leaderCheck m b) (first (number_of qc qcRequiresQuorum) (tcNumber m b r))
+unfoldable pub proposal_check : List ℕ → Block → List ℕ → Checked → ℕ
+proposal_check m b r qc = first (leader_check m b) (first (number_of qc qc_requires_quorum) (tc_number m b r))
 
 -- "advance by TC"
-unfoldable pub advancedTC : Block → State → Step
-advancedTC b s = cond (eqb b.tc 0) (quiet s) (advanced s b.tc_round.0)
+unfoldable pub advanced_tc : Block → State → Step
+advanced_tc b s = cond (eqb b.tc 0) (quiet s) (advanced s b.tc_round.0)
 
 -- "take QC; advance by TC"
 unfoldable pub taken : State → Block → Signers → Step
-taken s b signers = and_then (takenQC s (qcOf b.qc_hash b.qc_round.0 signers)) (advancedTC b)
+taken s b signers = and_then (taken_qc s (qc_of b.qc_hash b.qc_round.0 signers)) (advanced_tc b)
 
 pub record Proposal : Type 0 where
-  pub goesOn : Bool
+  pub goes_on : Bool
   pub out : Outcome
 
 -- "payload": 0 absent, 1 ready, 2 invalid
-unfoldable pub payloadNumber : ℕ → ℕ
-payloadNumber payload = cond (eqb payload 1) 0 (cond (eqb payload 0) waitPayload invalidPayload)
+unfoldable pub payload_number : ℕ → ℕ
+payload_number payload = cond (eqb payload 1) 0 (cond (eqb payload 0) wait_payload invalid_payload)
 
 -- "payload; then as LOOPBACK": a block goes on if its payload is ready; certificates are taken whatever it is
-unfoldable pub byPayload : ℕ → Step → Proposal
-byPayload payload a = record { goesOn = eqb payload 1; out = done (payloadNumber payload) a }
+unfoldable pub by_payload : ℕ → Step → Proposal
+by_payload payload a = record { goes_on = eqb payload 1; out = done (payload_number payload) a }
 
-unfoldable pub proposalWith : List ℕ → State → Block → List ℕ → ℕ → Checked → Proposal
-proposalWith m s b r payload qc =
-    cond (eqb (proposalCheck m b r qc) 0) (byPayload payload (taken s b (signersOf qc)))
-    (record { goesOn = false; out = refused (proposalCheck m b r qc) s })
+unfoldable pub proposal_with : List ℕ → State → Block → List ℕ → ℕ → Checked → Proposal
+proposal_with m s b r payload qc =
+    cond (eqb (proposal_check m b r qc) 0) (by_payload payload (taken s b (signers_of qc)))
+    (record { goes_on = false; out = refused (proposal_check m b r qc) s })
 
-unfoldable pub proposalOf : List ℕ → State → Block → List ℕ → ℕ → Proposal
-proposalOf m s b r payload = proposalWith m s b r payload (qcFound m r)
+unfoldable pub proposal_of : List ℕ → State → Block → List ℕ → ℕ → Proposal
+proposal_of m s b r payload = proposal_with m s b r payload (qc_found m r)
 
 -- ---- what code did
 
 pub record Proposes (k : ℕ) (p : Proposal) (before : List ℕ) (at : ℕ) (r : Proposed) (votes timeouts after : List ℕ) : Type 0 where
-  pub goes : r.goes_on ≡ p.goesOn
+  pub goes : r.goes_on ≡ p.goes_on
   pub answer : r.answer ≡ p.out.answer
   pub did : Did k p.out.left before at r.core votes timeouts after r.at
 
-abbrev pub refusedAs : Core → ℕ → Proposed
-refusedAs core n = record { answer = n; goes_on = false; core = core; at = 0 }
+abbrev pub refused_as : Core → ℕ → Proposed
+refused_as core n = record { answer = n; goes_on = false; core = core; at = 0 }
 
-abbrev pub payloadAs : Moved → ℕ → Proposed
-payloadAs a payload = record { answer = payloadNumber payload; goes_on = eqb payload 1; core = a.core; at = a.at }
+abbrev pub payload_as : Moved → ℕ → Proposed
+payload_as a payload = record { answer = payload_number payload; goes_on = eqb payload 1; core = a.core; at = a.at }
 
 -- ---- how much is written at most
 
-abbrev pub takenMost : ℕ
-takenMost = advanceMost + advanceMost
+abbrev pub taken_most : ℕ
+taken_most = advance_most + advance_most

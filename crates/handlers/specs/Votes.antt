@@ -1,33 +1,33 @@
 -- 01, Events: VOTE, and the vote for a block. m is the committee, own the own place, s the state.
---     voteCheck m current v, handledVote m own s v    VOTE
---     extends b, mayVote c b                          the voting rules
---     ownVote, voted, voting m own b s                the vote for the block b
---     votingMost                                      the most bytes that the vote for a block writes
+--     vote_check m current v, handled_vote m own s v    VOTE
+--     extends b, may_vote c b                          the voting rules
+--     own_vote, voted, voting m own b s                the vote for the block b
+--     voting_most                                      the most bytes that the vote for a block writes
 use Rattle.std.specs.Prelude.{ℕ, ◌+◌, Bool, true, false, cond, List, ltb, leb, eqb}
-use Rattle.certificates.specs.Config.{stakeOf, quorumOf}
-use Rattle.certificates.specs.Leader.{leaderOf}
-use Rattle.certificates.specs.Messages.{authorCheck}
-use Rattle.certificates.specs.Error.{stale, authorNumber}
+use Rattle.certificates.specs.Config.{stake_of, quorum_of}
+use Rattle.certificates.specs.Leader.{leader_of}
+use Rattle.certificates.specs.Messages.{author_check}
+use Rattle.certificates.specs.Error.{stale, author_number}
 use Rattle.trace.specs.declared.events.Vote.{Vote}
 use Rattle.trace.specs.declared.events.Block.{Block}
-use Rattle.outputs.specs.Records.{vote, voteSize}
+use Rattle.outputs.specs.Records.{vote, vote_size}
 use Rattle.moves.specs.declared.state.Core.{Core}
-use Rattle.moves.specs.State.{State, withCore, withVoted}
+use Rattle.moves.specs.State.{State, with_core, with_voted}
 use Rattle.moves.specs.Outcome.{Outcome, quiet, wrote, done, after, checked}
-use Rattle.moves.specs.Moves.{certifyMost}
-use Rattle.moves.specs.Tallied.{voteTallied}
+use Rattle.moves.specs.Moves.{certify_most}
+use Rattle.moves.specs.Tallied.{vote_tallied}
 
 -- ---- VOTE
 
 -- "VOTE: below the current round, STALE. Unknown or stake 0; verdict"
-unfoldable pub voteCheck : List ℕ → ℕ → Vote → ℕ
-voteCheck m current v = cond (ltb v.round.0 current) stale (authorNumber (authorCheck m v.author.0 v.verdict))
+unfoldable pub vote_check : List ℕ → ℕ → Vote → ℕ
+vote_check m current v = cond (ltb v.round.0 current) stale (author_number (author_check m v.author.0 v.verdict))
 
 -- ".. tally by (round, hash) .."
-unfoldable pub handledVote : List ℕ → ℕ → State → Vote → Outcome
-handledVote m own s v =
-    checked (voteCheck m s.core.round.0 v) s
-    (voteTallied m own (quorumOf m) s v.hash v.round.0 v.author.0 (stakeOf m v.author.0))
+unfoldable pub handled_vote : List ℕ → ℕ → State → Vote → Outcome
+handled_vote m own s v =
+    checked (vote_check m s.core.round.0 v) s
+    (vote_tallied m own (quorum_of m) s v.hash v.round.0 v.author.0 (stake_of m v.author.0))
 
 -- ---- the voting rules
 
@@ -41,27 +41,27 @@ extends b =
     (cond (eqb (b.tc_round.0 + 1) b.round.0) (leb b.tc_high.0 b.qc_round.0) false))
 
 -- with r > r_vote: "Vote if round > last voted and (..)"
-unfoldable pub mayVote : Core → Block → Bool
-mayVote c b = cond (ltb c.last_voted_round.0 b.round.0) (extends b) false
+unfoldable pub may_vote : Core → Block → Bool
+may_vote c b = cond (ltb c.last_voted_round.0 b.round.0) (extends b) false
 
 -- ---- the vote for a block
 
 -- "it also goes through VOTE's steps at once, verdict yes"
-unfoldable pub ownVote : List ℕ → ℕ → Block → State → Outcome
-ownVote m own b s =
-    checked (authorNumber (authorCheck m own 1)) s
-    (voteTallied m own (quorumOf m) s b.digest b.round.0 own (stakeOf m own))
+unfoldable pub own_vote : List ℕ → ℕ → Block → State → Outcome
+own_vote m own b s =
+    checked (author_number (author_check m own 1)) s
+    (vote_tallied m own (quorum_of m) s b.digest b.round.0 own (stake_of m own))
 
 -- "last voted becomes round, and VOTE is written with the next round's leader. If that is own place, it also goes through VOTE's steps"
 unfoldable pub voted : List ℕ → ℕ → Block → State → Outcome
 voted m own b s =
-    after (wrote (withCore s (withVoted s.core b.round.0)) (vote (leaderOf m (b.round.0 + 1)) b.digest b.round.0))
-    (λ (t : State). cond (eqb (leaderOf m (b.round.0 + 1)) own) (ownVote m own b t) (done 0 (quiet t)))
+    after (wrote (with_core s (with_voted s.core b.round.0)) (vote (leader_of m (b.round.0 + 1)) b.digest b.round.0))
+    (λ (t : State). cond (eqb (leader_of m (b.round.0 + 1)) own) (own_vote m own b t) (done 0 (quiet t)))
 
 -- with r the current round: "If the block's round is not current, done. Vote if .."
 unfoldable pub voting : List ℕ → ℕ → Block → State → Outcome
 voting m own b s =
-    cond (eqb b.round.0 s.core.round.0) (cond (mayVote s.core b) (voted m own b s) (done 0 (quiet s))) (done 0 (quiet s))
+    cond (eqb b.round.0 s.core.round.0) (cond (may_vote s.core b) (voted m own b s) (done 0 (quiet s))) (done 0 (quiet s))
 
-abbrev pub votingMost : ℕ
-votingMost = voteSize + certifyMost
+abbrev pub voting_most : ℕ
+voting_most = vote_size + certify_most

@@ -1,6 +1,6 @@
 // What the handlers share.
 ghost use Rattle.std.specs.Prelude.{◌≡◌};
-ghost use Rattle.handlers.specs.Sound.{signersOf};
+ghost use Rattle.handlers.specs.Sound.{signers_of};
 
 use certificates::messages::Checked;
 use certificates::numbers::Signers;
@@ -10,7 +10,7 @@ pub(crate) const YES: u8 = 1;
 
 // The signers that a check accepted; none where it did not.
 pub(crate) fn signers_of(c: Checked) -> Signers
-    ensures { result ≡ signersOf c }
+    ensures { result ≡ signers_of c }
 {
     match c {
         Checked::Accepted(s) => s,

@@ -3,6 +3,8 @@
 // `votes` has VOTE and the vote for a block, `timeouts` TIMEOUT, TC and TICK, `proposals` PROPOSE up
 // to its payload. Each takes the committee, the own place and the quorum, the state, and the lent
 // tallies and output.
+#![tactic(auto)]
+
 mod checks;
 pub mod proposals;
 pub mod timeouts;

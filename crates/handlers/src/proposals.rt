@@ -1,11 +1,11 @@
 // PROPOSE up to its payload: handle_proposal.
 ghost use Rattle.std.specs.Prelude.{◌≡◌, ◌+◌, ◌≤◌, length};
-ghost use Rattle.certificates.specs.Config.{quorumOf};
-ghost use Rattle.certificates.specs.Numbers.{roundMax};
-ghost use Rattle.aggregator.specs.Tallies.{votesLength, timeoutsLength};
+ghost use Rattle.certificates.specs.Config.{quorum_of};
+ghost use Rattle.certificates.specs.Numbers.{round_max};
+ghost use Rattle.aggregator.specs.Tallies.{votes_length, timeouts_length};
 ghost use Rattle.moves.specs.State.{whole};
 ghost use Rattle.moves.specs.Outcome.{Did};
-ghost use Rattle.handlers.specs.Proposals.{leaderCheck, tcNumber, taken, takenMost, proposalOf, Proposes, refusedAs, payloadAs};
+ghost use Rattle.handlers.specs.Proposals.{leader_check, tc_number, taken, taken_most, proposal_of, Proposes, refused_as, payload_as};
 
 use crate::checks::signers_of;
 use certificates::error::{
@@ -25,7 +25,7 @@ const ABSENT: u8 = 0;
 const READY: u8 = 1;
 
 // A proposal before the table of blocks: the answer, and whether the block goes on to it.
-#[derive(Drop)]
+#[derive(Clone, Copy)]
 pub struct Proposed {
     pub answer: u16,
     pub goes_on: bool,
@@ -35,7 +35,7 @@ pub struct Proposed {
 
 // The leader, the author's stake, the verdict: 0 where all are passed.
 fn leader_check(members: &[u32], b: Block) -> u16
-    ensures { result ≡ leaderCheck members.now b }
+    ensures { result ≡ leader_check members.now b }
 {
     let leader = get_leader(members, b.round);
     if leader.0 == b.author.0 {
@@ -46,8 +46,8 @@ fn leader_check(members: &[u32], b: Block) -> u16
 
 // The block's TC: 0 where it has none, or where its check is passed.
 fn tc_number(members: &[u32], need: Stake, b: Block, input: &[u8]) -> u16
-    requires { need.0 ≡ quorumOf members.now }
-    ensures { result ≡ tcNumber members.now b input.now }
+    requires { need.0 ≡ quorum_of members.now }
+    ensures { result ≡ tc_number members.now b input.now }
 {
     if b.tc == 0 {
         return DONE;
@@ -65,8 +65,8 @@ fn take_certificates(
     b: Block,
     signers: Signers,
 ) -> Moved
-    requires { (b.qc_round.0 ≤ roundMax) × (b.tc_round.0 ≤ roundMax) × (length votes.old ≡ votesLength) × (length timeouts.old ≡ timeoutsLength) × (takenMost ≤ length out.old) }
-    ensures { Did takenMost (taken (whole core votes.old timeouts.old) b signers) out.old 0 result.core votes.new timeouts.new out.new result.at }
+    requires { (b.qc_round.0 ≤ round_max) × (b.tc_round.0 ≤ round_max) × (length votes.old ≡ votes_length) × (length timeouts.old ≡ timeouts_length) × (taken_most ≤ length out.old) }
+    ensures { Did taken_most (taken (whole core votes.old timeouts.old) b signers) out.old 0 result.core votes.new timeouts.new out.new result.at }
 {
     let hash = b.qc_hash;
     let round = b.qc_round;
@@ -85,7 +85,7 @@ fn take_certificates(
 
 // An early refusal.
 fn refuse(core: Core, answer: u16) -> Proposed
-    ensures { result ≡ refusedAs core answer }
+    ensures { result ≡ refused_as core answer }
 {
     Proposed {
         answer,
@@ -97,7 +97,7 @@ fn refuse(core: Core, answer: u16) -> Proposed
 
 // WAIT PAYLOAD where it is absent, 27 where it is invalid; the block goes on where it is ready.
 fn by_payload(a: Moved, payload: u8) -> Proposed
-    ensures { result ≡ payloadAs a payload }
+    ensures { result ≡ payload_as a payload }
 {
     let core = a.core;
     if payload == READY {
@@ -138,8 +138,8 @@ pub fn handle_proposal(
     b: Block,
     payload: u8,
 ) -> Proposed
-    requires { (need.0 ≡ quorumOf members.now) × (b.qc_round.0 ≤ roundMax) × (b.tc_round.0 ≤ roundMax) × (length votes.old ≡ votesLength) × (length timeouts.old ≡ timeoutsLength) × (takenMost ≤ length out.old) }
-    ensures { Proposes takenMost (proposalOf members.now (whole core votes.old timeouts.old) b input.now payload) out.old 0 result votes.new timeouts.new out.new }
+    requires { (need.0 ≡ quorum_of members.now) × (b.qc_round.0 ≤ round_max) × (b.tc_round.0 ≤ round_max) × (length votes.old ≡ votes_length) × (length timeouts.old ≡ timeouts_length) × (taken_most ≤ length out.old) }
+    ensures { Proposes taken_most (proposal_of members.now (whole core votes.old timeouts.old) b input.now payload) out.old 0 result votes.new timeouts.new out.new }
 {
     let n = leader_check(members, b);
     if n != DONE {

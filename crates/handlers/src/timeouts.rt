@@ -1,13 +1,13 @@
 // TIMEOUT, TC and TICK: handle_timeout, handle_tc, local_timeout_round.
 ghost use Rattle.std.specs.Prelude.{◌≡◌, ◌+◌, ◌≤◌, ◌<◌, length};
-ghost use Rattle.certificates.specs.Config.{quorumOf};
-ghost use Rattle.certificates.specs.Numbers.{roundMax};
+ghost use Rattle.certificates.specs.Config.{quorum_of};
+ghost use Rattle.certificates.specs.Numbers.{round_max};
 ghost use Rattle.moves.specs.State.{whole};
 ghost use Rattle.moves.specs.Outcome.{Did, Reached};
-ghost use Rattle.moves.specs.Moves.{timeOutMost};
+ghost use Rattle.moves.specs.Moves.{time_out_most};
 ghost use Rattle.handlers.specs.Sound.{Sound};
-ghost use Rattle.handlers.specs.Timeouts.{timeoutCheck, timeoutTaken, handledTimeout, tcTaken, handledTC, votedUp, TicksTo, ownTimeout, handledTick};
-ghost use Rattle.handlers.specs.Timeouts.{handleTimeoutMost, handleTCMost, tickMost, localTimeoutMost};
+ghost use Rattle.handlers.specs.Timeouts.{timeout_check, timeout_taken, handled_timeout, tc_taken, handled_tc, voted_up, TicksTo, own_timeout, handled_tick};
+ghost use Rattle.handlers.specs.Timeouts.{handle_timeout_most, handle_tc_most, tick_most, local_timeout_most};
 
 use crate::checks::{YES, signers_of};
 use aggregator::tallies::{Added, add_timeout};
@@ -25,7 +25,7 @@ use trace::events::{TC_BODY, TIMEOUT_QC, Timeout, highs_of, qc_part, tc_part};
 
 // STALE, the author, the verdict: 0 where all are passed.
 fn timeout_check(members: &[u32], current: Round, t: Timeout) -> u16
-    ensures { result ≡ timeoutCheck members.now current.0 t }
+    ensures { result ≡ timeout_check members.now current.0 t }
 {
     if t.round.0 < current.0 {
         return STALE;
@@ -46,8 +46,8 @@ fn take_timeout(
     t: Timeout,
     signers: Signers,
 ) -> Ran
-    requires { Sound members.now own.0 votes.old timeouts.old × (need.0 ≡ quorumOf members.now) × (t.author.0 < length members.now) × (t.round.0 ≤ roundMax) × (t.qc_round.0 ≤ roundMax) × (handleTimeoutMost ≤ length out.old) }
-    ensures { Reached handleTimeoutMost (timeoutTaken members.now own.0 (whole core votes.old timeouts.old) t signers) out.old 0 result votes.new timeouts.new out.new }
+    requires { Sound members.now own.0 votes.old timeouts.old × (need.0 ≡ quorum_of members.now) × (t.author.0 < length members.now) × (t.round.0 ≤ round_max) × (t.qc_round.0 ≤ round_max) × (handle_timeout_most ≤ length out.old) }
+    ensures { Reached handle_timeout_most (timeout_taken members.now own.0 (whole core votes.old timeouts.old) t signers) out.old 0 result votes.new timeouts.new out.new }
 {
     let hash = t.qc_hash;
     let round = t.qc_round;
@@ -90,8 +90,8 @@ pub fn handle_timeout(
     input: &[u8],
     t: Timeout,
 ) -> Ran
-    requires { Sound members.now own.0 votes.old timeouts.old × (need.0 ≡ quorumOf members.now) × (t.round.0 ≤ roundMax) × (t.qc_round.0 ≤ roundMax) × (handleTimeoutMost ≤ length out.old) }
-    ensures { Reached handleTimeoutMost (handledTimeout members.now own.0 (whole core votes.old timeouts.old) t input.now) out.old 0 result votes.new timeouts.new out.new }
+    requires { Sound members.now own.0 votes.old timeouts.old × (need.0 ≡ quorum_of members.now) × (t.round.0 ≤ round_max) × (t.qc_round.0 ≤ round_max) × (handle_timeout_most ≤ length out.old) }
+    ensures { Reached handle_timeout_most (handled_timeout members.now own.0 (whole core votes.old timeouts.old) t input.now) out.old 0 result votes.new timeouts.new out.new }
 {
     let n = timeout_check(members, core.round, t);
     if n != 0 {
@@ -126,8 +126,8 @@ fn take_tc(
     round: Round,
     names: Signers,
 ) -> Moved
-    requires { Sound members.now own.0 votes.old timeouts.old × (round.0 ≤ roundMax) × (handleTCMost ≤ length out.old) }
-    ensures { Did handleTCMost (tcTaken members.now own.0 (whole core votes.old timeouts.old) round.0 names part.now) out.old 0 result.core votes.new timeouts.new out.new result.at }
+    requires { Sound members.now own.0 votes.old timeouts.old × (round.0 ≤ round_max) × (handle_tc_most ≤ length out.old) }
+    ensures { Did handle_tc_most (tc_taken members.now own.0 (whole core votes.old timeouts.old) round.0 names part.now) out.old 0 result.core votes.new timeouts.new out.new result.at }
 {
     let mut a = advance_round(core, votes, timeouts, out, 0, round);
     let mut highs = [0u64; MEMBERS_MAX];
@@ -148,8 +148,8 @@ pub fn handle_tc(
     input: &[u8],
     round: Round,
 ) -> Ran
-    requires { Sound members.now own.0 votes.old timeouts.old × (need.0 ≡ quorumOf members.now) × (round.0 ≤ roundMax) × (handleTCMost ≤ length out.old) }
-    ensures { Reached handleTCMost (handledTC members.now own.0 (whole core votes.old timeouts.old) round.0 input.now) out.old 0 result votes.new timeouts.new out.new }
+    requires { Sound members.now own.0 votes.old timeouts.old × (need.0 ≡ quorum_of members.now) × (round.0 ≤ round_max) × (handle_tc_most ≤ length out.old) }
+    ensures { Reached handle_tc_most (handled_tc members.now own.0 (whole core votes.old timeouts.old) round.0 input.now) out.old 0 result votes.new timeouts.new out.new }
 {
     let part = tc_part(input, TC_BODY);
     let c = check_tc(members, need, part);
@@ -179,7 +179,7 @@ pub fn handle_tc(
 }
 
 fn increase_last_voted_round(core: Core, target: Round) -> Core
-    ensures { (result ≡ votedUp core target.0) × (result.round ≡ core.round) }
+    ensures { (result ≡ voted_up core target.0) × (result.round ≡ core.round) }
 {
     let mut n = core;
     if core.last_voted_round.0 < target.0 {
@@ -190,7 +190,7 @@ fn increase_last_voted_round(core: Core, target: Round) -> Core
 
 // Last voted rises to the current round; TIMER RESET; TIMEOUT.
 fn tick(core: Core, out: &mut [u8], at: usize) -> Moved
-    requires { at + tickMost ≤ length out.old }
+    requires { at + tick_most ≤ length out.old }
     ensures { TicksTo core out.old at result.core out.new result.at }
 {
     let a = put_timer_reset(out, at);
@@ -210,8 +210,8 @@ fn own_timeout(
     out: &mut [u8],
     at: usize,
 ) -> Ran
-    requires { Sound members.now own.0 votes.old timeouts.old × (need.0 ≡ quorumOf members.now) × (core.round.0 ≤ roundMax) × (at + timeOutMost ≤ length out.old) }
-    ensures { Reached timeOutMost (ownTimeout members.now own.0 (whole core votes.old timeouts.old)) out.old at result votes.new timeouts.new out.new }
+    requires { Sound members.now own.0 votes.old timeouts.old × (need.0 ≡ quorum_of members.now) × (core.round.0 ≤ round_max) × (at + time_out_most ≤ length out.old) }
+    ensures { Reached time_out_most (own_timeout members.now own.0 (whole core votes.old timeouts.old)) out.old at result votes.new timeouts.new out.new }
 {
     let n = author_number(check_author(members, own, YES));
     if n != 0 {
@@ -250,8 +250,8 @@ pub fn local_timeout_round(
     timeouts: &mut [u64],
     out: &mut [u8],
 ) -> Ran
-    requires { Sound members.now own.0 votes.old timeouts.old × (need.0 ≡ quorumOf members.now) × (localTimeoutMost ≤ length out.old) }
-    ensures { Reached localTimeoutMost (handledTick members.now own.0 (whole core votes.old timeouts.old)) out.old 0 result votes.new timeouts.new out.new }
+    requires { Sound members.now own.0 votes.old timeouts.old × (need.0 ≡ quorum_of members.now) × (local_timeout_most ≤ length out.old) }
+    ensures { Reached local_timeout_most (handled_tick members.now own.0 (whole core votes.old timeouts.old)) out.old 0 result votes.new timeouts.new out.new }
 {
     if ROUND_MAX < core.round.0 {
         return Ran {

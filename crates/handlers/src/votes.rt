@@ -1,12 +1,12 @@
 // VOTE, and the vote for a block: handle_vote, make_vote.
 ghost use Rattle.std.specs.Prelude.{◌≡◌, ◌+◌, ◌≤◌, length};
-ghost use Rattle.certificates.specs.Config.{quorumOf};
-ghost use Rattle.certificates.specs.Numbers.{roundMax};
+ghost use Rattle.certificates.specs.Config.{quorum_of};
+ghost use Rattle.certificates.specs.Numbers.{round_max};
 ghost use Rattle.moves.specs.State.{whole};
 ghost use Rattle.moves.specs.Outcome.{Reached};
-ghost use Rattle.moves.specs.Moves.{certifyMost};
+ghost use Rattle.moves.specs.Moves.{certify_most};
 ghost use Rattle.handlers.specs.Sound.{Sound};
-ghost use Rattle.handlers.specs.Votes.{voteCheck, handledVote, extends, mayVote, ownVote, voted, voting, votingMost};
+ghost use Rattle.handlers.specs.Votes.{vote_check, handled_vote, extends, may_vote, own_vote, voted, voting, voting_most};
 
 use crate::checks::YES;
 use aggregator::tallies::{Added, add_vote};
@@ -23,7 +23,7 @@ use trace::events::{Block, Vote};
 
 // STALE, the author, the verdict: 0 where all are passed.
 fn vote_check(members: &[u32], current: Round, v: Vote) -> u16
-    ensures { result ≡ voteCheck members.now current.0 v }
+    ensures { result ≡ vote_check members.now current.0 v }
 {
     if v.round.0 < current.0 {
         return STALE;
@@ -44,8 +44,8 @@ pub fn handle_vote(
     out: &mut [u8],
     v: Vote,
 ) -> Ran
-    requires { Sound members.now own.0 votes.old timeouts.old × (need.0 ≡ quorumOf members.now) × (v.round.0 ≤ roundMax) × (certifyMost ≤ length out.old) }
-    ensures { Reached certifyMost (handledVote members.now own.0 (whole core votes.old timeouts.old) v) out.old 0 result votes.new timeouts.new out.new }
+    requires { Sound members.now own.0 votes.old timeouts.old × (need.0 ≡ quorum_of members.now) × (v.round.0 ≤ round_max) × (certify_most ≤ length out.old) }
+    ensures { Reached certify_most (handled_vote members.now own.0 (whole core votes.old timeouts.old) v) out.old 0 result votes.new timeouts.new out.new }
 {
     let n = vote_check(members, core.round, v);
     if n != DONE {
@@ -82,7 +82,7 @@ pub fn handle_vote(
 
 // The block extends its QC's round, or a TC's whose high rounds are not above the QC's.
 fn is_extending(b: Block) -> bool
-    requires { (b.qc_round.0 ≤ roundMax) × (b.tc_round.0 ≤ roundMax) }
+    requires { (b.qc_round.0 ≤ round_max) × (b.tc_round.0 ≤ round_max) }
     ensures { result ≡ extends b }
 {
     if b.qc_round.0 + 1 == b.round.0 {
@@ -99,8 +99,8 @@ fn is_extending(b: Block) -> bool
 
 // Both rules: safety_rule_1 and safety_rule_2.
 fn may_vote(core: Core, b: Block) -> bool
-    requires { (b.qc_round.0 ≤ roundMax) × (b.tc_round.0 ≤ roundMax) }
-    ensures { result ≡ mayVote core b }
+    requires { (b.qc_round.0 ≤ round_max) × (b.tc_round.0 ≤ round_max) }
+    ensures { result ≡ may_vote core b }
 {
     if core.last_voted_round.0 < b.round.0 {
         return is_extending(b);
@@ -120,8 +120,8 @@ fn own_vote(
     at: usize,
     b: Block,
 ) -> Ran
-    requires { Sound members.now own.0 votes.old timeouts.old × (need.0 ≡ quorumOf members.now) × (b.round.0 ≤ roundMax) × (at + certifyMost ≤ length out.old) }
-    ensures { Reached certifyMost (ownVote members.now own.0 b (whole core votes.old timeouts.old)) out.old at result votes.new timeouts.new out.new }
+    requires { Sound members.now own.0 votes.old timeouts.old × (need.0 ≡ quorum_of members.now) × (b.round.0 ≤ round_max) × (at + certify_most ≤ length out.old) }
+    ensures { Reached certify_most (own_vote members.now own.0 b (whole core votes.old timeouts.old)) out.old at result votes.new timeouts.new out.new }
 {
     let n = author_number(check_author(members, own, YES));
     if n != DONE {
@@ -169,8 +169,8 @@ fn send_vote(
     at: usize,
     b: Block,
 ) -> Ran
-    requires { Sound members.now own.0 votes.old timeouts.old × (need.0 ≡ quorumOf members.now) × (b.round.0 ≤ roundMax) × (at + votingMost ≤ length out.old) }
-    ensures { Reached votingMost (voted members.now own.0 b (whole core votes.old timeouts.old)) out.old at result votes.new timeouts.new out.new }
+    requires { Sound members.now own.0 votes.old timeouts.old × (need.0 ≡ quorum_of members.now) × (b.round.0 ≤ round_max) × (at + voting_most ≤ length out.old) }
+    ensures { Reached voting_most (voted members.now own.0 b (whole core votes.old timeouts.old)) out.old at result votes.new timeouts.new out.new }
 {
     let round = b.round;
     let mut n = core;
@@ -202,8 +202,8 @@ pub fn make_vote(
     at: usize,
     b: Block,
 ) -> Ran
-    requires { Sound members.now own.0 votes.old timeouts.old × (need.0 ≡ quorumOf members.now) × (b.round.0 ≤ roundMax) × (b.qc_round.0 ≤ roundMax) × (b.tc_round.0 ≤ roundMax) × (at + votingMost ≤ length out.old) }
-    ensures { Reached votingMost (voting members.now own.0 b (whole core votes.old timeouts.old)) out.old at result votes.new timeouts.new out.new }
+    requires { Sound members.now own.0 votes.old timeouts.old × (need.0 ≡ quorum_of members.now) × (b.round.0 ≤ round_max) × (b.qc_round.0 ≤ round_max) × (b.tc_round.0 ≤ round_max) × (at + voting_most ≤ length out.old) }
+    ensures { Reached voting_most (voting members.now own.0 b (whole core votes.old timeouts.old)) out.old at result votes.new timeouts.new out.new }
 {
     if b.round.0 == core.round.0 {
         if may_vote(core, b) {

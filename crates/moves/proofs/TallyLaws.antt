@@ -17,26 +17,26 @@ use Rattle.aggregator.specs.declared.tallies.Added.{Added}
 use Rattle.aggregator.specs.declared.tallies.Added.TheVariants.{NoRoom, Used, More, Full}
 use Rattle.aggregator.specs.contracts.tallies.Added.{the_type}
 use Rattle.aggregator.specs.Tally.{AddedAs}
-use Rattle.aggregator.specs.Tallies.{votesLength, timeoutsLength, highsAt, voteAdded, votesAfter, timeoutAdded, timeoutsAfter}
+use Rattle.aggregator.specs.Tallies.{votes_length, timeouts_length, highs_at, vote_added, votes_after, timeout_added, timeouts_after}
 use Rattle.aggregator.proofs.Laws.{vote-no-room, vote-used, votes-after-length, votes-after-light, timeout-no-room, timeout-used, timeouts-after-length, timeouts-after-light}
 use Rattle.moves.specs.declared.state.Core.{Core}
-use Rattle.moves.specs.State.{State, whole, withVotes, withTimeouts}
+use Rattle.moves.specs.State.{State, whole, with_votes, with_timeouts}
 use Rattle.moves.specs.Outcome.{refused, Did, Reached}
-use Rattle.moves.specs.Moves.{certified, timedOut, certifyMost, timeOutMost}
-use Rattle.moves.specs.Tallied.{qcOf, addedNumber, afterVote, voteTallied, afterTimeout, timeoutTallied}
+use Rattle.moves.specs.Moves.{certified, timed_out, certify_most, time_out_most}
+use Rattle.moves.specs.Tallied.{qc_of, added_number, after_vote, vote_tallied, after_timeout, timeout_tallied}
 use Rattle.moves.proofs.Outcomes.{reached-done, reached-refused}
 use Rattle.moves.proofs.MoveLaws.{Keeps, keeps-none, keeps_then, certified-keeps, timed-out-keeps}
 
 -- ---- what the definitions give
 
 pub vote-tallied-is : (m : List ℕ) (own need : ℕ) (s : State) (hash : Hash) (round p stake : ℕ)
-    → voteTallied m own need s hash round p stake ≡ afterVote m own s hash round (votesAfter s.votes round hash p stake need) (voteAdded s.votes round hash p stake need)
-unfolding voteTallied
+    → vote_tallied m own need s hash round p stake ≡ after_vote m own s hash round (votes_after s.votes round hash p stake need) (vote_added s.votes round hash p stake need)
+unfolding vote_tallied
 vote-tallied-is m own need s hash round p stake = refl
 
 pub timeout-tallied-is : (m : List ℕ) (own need : ℕ) (s : State) (round p stake high : ℕ)
-    → timeoutTallied m own need s round p stake high ≡ afterTimeout m own s round (timeoutsAfter s.timeouts round p stake need high) (timeoutAdded s.timeouts round p stake need)
-unfolding timeoutTallied
+    → timeout_tallied m own need s round p stake high ≡ after_timeout m own s round (timeouts_after s.timeouts round p stake need high) (timeout_added s.timeouts round p stake need)
+unfolding timeout_tallied
 timeout-tallied-is m own need s round p stake high = refl
 
 -- ---- short of the quorum
@@ -48,57 +48,57 @@ Short a = OneOf (0 ∷ 1 ∷ 2 ∷ []) (tag_of the_type a)
 -- ---- a vote
 
 module _ (m : List ℕ) (own need : ℕ) (core : Core) (votes timeouts out : List ℕ) (at : ℕ) (hash : Hash) (round p stake : ℕ) {a : Added} {v : List ℕ}
-    (k : AddedAs (voteAdded votes round hash p stake need) (votesAfter votes round hash p stake need) a v) where
-  vote-counted : voteTallied m own need (whole core votes timeouts) hash round p stake ≡ afterVote m own (whole core votes timeouts) hash round v a
+    (k : AddedAs (vote_added votes round hash p stake need) (votes_after votes round hash p stake need) a v) where
+  vote-counted : vote_tallied m own need (whole core votes timeouts) hash round p stake ≡ after_vote m own (whole core votes timeouts) hash round v a
   vote-counted = rw (k.answer, k.table) (vote-tallied-is m own need (whole core votes timeouts) hash round p stake)
 
-  vote-stays : (b : Added) → a ≡ b → Short b → afterVote m own (whole core votes timeouts) hash round v b ≡ refused (addedNumber b) (whole core v timeouts)
+  vote-stays : (b : Added) → a ≡ b → Short b → after_vote m own (whole core votes timeouts) hash round v b ≡ refused (added_number b) (whole core v timeouts)
   vote-stays NoRoom e h = rw (vote-no-room votes round hash p stake need k e)
   vote-stays Used e h = rw (vote-used votes round hash p stake need k e)
   vote-stays More e h = refl
   vote-stays (Full i signers) e h = absurd (miss (0 ∷ 1 ∷ 2 ∷ []) 3 tt h)
 
-  pub vote-tallied-short : {n : ℕ} → Short a → n ≡ addedNumber a
-      → Reached certifyMost (voteTallied m own need (whole core votes timeouts) hash round p stake) out at (record { answer = n; core = core; at = at }) v timeouts out
-  vote-tallied-short h e = rw (vote-counted, e, vote-stays a refl h) (reached-refused certifyMost (addedNumber a) core v timeouts out at)
+  pub vote-tallied-short : {n : ℕ} → Short a → n ≡ added_number a
+      → Reached certify_most (vote_tallied m own need (whole core votes timeouts) hash round p stake) out at (record { answer = n; core = core; at = at }) v timeouts out
+  vote-tallied-short h e = rw (vote-counted, e, vote-stays a refl h) (reached-refused certify_most (added_number a) core v timeouts out at)
 
   pub vote-tallied-full : {i : ℕ} {signers : Signers} {c : Core} {v' t' out' : List ℕ} {next : ℕ} → a ≡ Full i signers
-      → Did certifyMost (certified m own (whole core v timeouts) (qcOf hash round signers)) out at c v' t' out' next
-      → Reached certifyMost (voteTallied m own need (whole core votes timeouts) hash round p stake) out at (record { answer = 0; core = c; at = next }) v' t' out'
+      → Did certify_most (certified m own (whole core v timeouts) (qc_of hash round signers)) out at c v' t' out' next
+      → Reached certify_most (vote_tallied m own need (whole core votes timeouts) hash round p stake) out at (record { answer = 0; core = c; at = next }) v' t' out'
   vote-tallied-full e d = rw (vote-counted, e) (reached-done 0 d)
 
 -- ---- a timeout
 
 module _ (m : List ℕ) (own need : ℕ) (core : Core) (votes timeouts out : List ℕ) (at round p stake high : ℕ) {a : Added} {t : List ℕ}
-    (k : AddedAs (timeoutAdded timeouts round p stake need) (timeoutsAfter timeouts round p stake need high) a t) where
-  timeout-counted : timeoutTallied m own need (whole core votes timeouts) round p stake high ≡ afterTimeout m own (whole core votes timeouts) round t a
+    (k : AddedAs (timeout_added timeouts round p stake need) (timeouts_after timeouts round p stake need high) a t) where
+  timeout-counted : timeout_tallied m own need (whole core votes timeouts) round p stake high ≡ after_timeout m own (whole core votes timeouts) round t a
   timeout-counted = rw (k.answer, k.table) (timeout-tallied-is m own need (whole core votes timeouts) round p stake high)
 
-  timeout-stays : (b : Added) → a ≡ b → Short b → afterTimeout m own (whole core votes timeouts) round t b ≡ refused (addedNumber b) (whole core votes t)
+  timeout-stays : (b : Added) → a ≡ b → Short b → after_timeout m own (whole core votes timeouts) round t b ≡ refused (added_number b) (whole core votes t)
   timeout-stays NoRoom e h = rw (timeout-no-room timeouts round p stake need high k e)
   timeout-stays Used e h = rw (timeout-used timeouts round p stake need high k e)
   timeout-stays More e h = refl
   timeout-stays (Full i names) e h = absurd (miss (0 ∷ 1 ∷ 2 ∷ []) 3 tt h)
 
-  pub timeout-tallied-short : {n : ℕ} → Short a → n ≡ addedNumber a
-      → Reached timeOutMost (timeoutTallied m own need (whole core votes timeouts) round p stake high) out at (record { answer = n; core = core; at = at }) votes t out
-  timeout-tallied-short h e = rw (timeout-counted, e, timeout-stays a refl h) (reached-refused timeOutMost (addedNumber a) core votes t out at)
+  pub timeout-tallied-short : {n : ℕ} → Short a → n ≡ added_number a
+      → Reached time_out_most (timeout_tallied m own need (whole core votes timeouts) round p stake high) out at (record { answer = n; core = core; at = at }) votes t out
+  timeout-tallied-short h e = rw (timeout-counted, e, timeout-stays a refl h) (reached-refused time_out_most (added_number a) core votes t out at)
 
   pub timeout-tallied-full : {i : ℕ} {names : Signers} {c : Core} {v' t' out' : List ℕ} {next : ℕ} → a ≡ Full i names
-      → Did timeOutMost (timedOut m own (whole core votes t) round names.0 (highsAt t i)) out at c v' t' out' next
-      → Reached timeOutMost (timeoutTallied m own need (whole core votes timeouts) round p stake high) out at (record { answer = 0; core = c; at = next }) v' t' out'
+      → Did time_out_most (timed_out m own (whole core votes t) round names.0 (highs_at t i)) out at c v' t' out' next
+      → Reached time_out_most (timeout_tallied m own need (whole core votes timeouts) round p stake high) out at (record { answer = 0; core = c; at = next }) v' t' out'
   timeout-tallied-full e d = rw (timeout-counted, e) (reached-done 0 d)
 
 -- ---- what is kept
 
-module _ (total : ℕ) (m : List ℕ) (own need : ℕ) (low : need ≤ suc total) (s : State) (long : length s.votes ≡ votesLength) (wide : length s.timeouts ≡ timeoutsLength) where
-  pub vote-tallied-keeps : (hash : Hash) (round p stake : ℕ) → Keeps total s (voteTallied m own need s hash round p stake).left.state
-  vote-tallied-keeps hash round p stake = rw (vote-tallied-is m own need s hash round p stake) (cases (voteAdded s.votes round hash p stake need))
+module _ (total : ℕ) (m : List ℕ) (own need : ℕ) (low : need ≤ suc total) (s : State) (long : length s.votes ≡ votes_length) (wide : length s.timeouts ≡ timeouts_length) where
+  pub vote-tallied-keeps : (hash : Hash) (round p stake : ℕ) → Keeps total s (vote_tallied m own need s hash round p stake).left.state
+  vote-tallied-keeps hash round p stake = rw (vote-tallied-is m own need s hash round p stake) (cases (vote_added s.votes round hash p stake need))
     where
-      same : length (votesAfter s.votes round hash p stake need) ≡ votesLength
+      same : length (votes_after s.votes round hash p stake need) ≡ votes_length
       same = votes-after-length s.votes round hash p stake need long
 
-      counted : Keeps total s (withVotes s (votesAfter s.votes round hash p stake need))
+      counted : Keeps total s (with_votes s (votes_after s.votes round hash p stake need))
       counted =
           record {
             votes = same ∙ sym long;
@@ -111,19 +111,19 @@ module _ (total : ℕ) (m : List ℕ) (own need : ℕ) (low : need ≤ suc total
             committed = refl;
           }
 
-      cases : (a : Added) → Keeps total s (afterVote m own s hash round (votesAfter s.votes round hash p stake need) a).left.state
+      cases : (a : Added) → Keeps total s (after_vote m own s hash round (votes_after s.votes round hash p stake need) a).left.state
       cases NoRoom = keeps-none total s
       cases Used = keeps-none total s
       cases More = counted
-      cases (Full i signers) = keeps_then counted (certified-keeps total (withVotes s (votesAfter s.votes round hash p stake need)) same wide m own (qcOf hash round signers))
+      cases (Full i signers) = keeps_then counted (certified-keeps total (with_votes s (votes_after s.votes round hash p stake need)) same wide m own (qc_of hash round signers))
 
-  pub timeout-tallied-keeps : (round p stake high : ℕ) → Keeps total s (timeoutTallied m own need s round p stake high).left.state
-  timeout-tallied-keeps round p stake high = rw (timeout-tallied-is m own need s round p stake high) (cases (timeoutAdded s.timeouts round p stake need))
+  pub timeout-tallied-keeps : (round p stake high : ℕ) → Keeps total s (timeout_tallied m own need s round p stake high).left.state
+  timeout-tallied-keeps round p stake high = rw (timeout-tallied-is m own need s round p stake high) (cases (timeout_added s.timeouts round p stake need))
     where
-      same : length (timeoutsAfter s.timeouts round p stake need high) ≡ timeoutsLength
+      same : length (timeouts_after s.timeouts round p stake need high) ≡ timeouts_length
       same = timeouts-after-length s.timeouts round p stake need high wide
 
-      counted : Keeps total s (withTimeouts s (timeoutsAfter s.timeouts round p stake need high))
+      counted : Keeps total s (with_timeouts s (timeouts_after s.timeouts round p stake need high))
       counted =
           record {
             votes = refl;
@@ -136,11 +136,11 @@ module _ (total : ℕ) (m : List ℕ) (own need : ℕ) (low : need ≤ suc total
             committed = refl;
           }
 
-      cases : (a : Added) → Keeps total s (afterTimeout m own s round (timeoutsAfter s.timeouts round p stake need high) a).left.state
+      cases : (a : Added) → Keeps total s (after_timeout m own s round (timeouts_after s.timeouts round p stake need high) a).left.state
       cases NoRoom = keeps-none total s
       cases Used = keeps-none total s
       cases More = counted
       cases (Full i names) =
           keeps_then counted
-          (timed-out-keeps total (withTimeouts s (timeoutsAfter s.timeouts round p stake need high)) long same m own round names.0
-          (highsAt (timeoutsAfter s.timeouts round p stake need high) i))
+          (timed-out-keeps total (with_timeouts s (timeouts_after s.timeouts round p stake need high)) long same m own round names.0
+          (highs_at (timeouts_after s.timeouts round p stake need high) i))

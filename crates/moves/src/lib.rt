@@ -3,6 +3,8 @@
 //
 // `state` has what an event changes, `rounds` the moves of core.rs between rounds, `tallies` the
 // answers to a counted vote or timeout.
+#![tactic(auto)]
+
 pub mod rounds;
 pub mod state;
 pub mod tallies;

@@ -1,12 +1,12 @@
 // The moves of core.rs from round to round. Each is handed the place to write at.
 ghost use Rattle.std.specs.Prelude.{◌≡◌, ◌+◌, ◌≤◌, ◌<◌, length};
-ghost use Rattle.aggregator.specs.Tallies.{votesLength, timeoutsLength, timeoutTallies, highsAt};
+ghost use Rattle.aggregator.specs.Tallies.{votes_length, timeouts_length, timeout_tallies, highs_at};
 ghost use Rattle.outputs.specs.Put.{Wrote};
-ghost use Rattle.outputs.specs.Records.{membersMax, makeSize, makeWithMost};
-ghost use Rattle.certificates.specs.Numbers.{roundMax};
+ghost use Rattle.outputs.specs.Records.{members_max, make_size, make_with_most};
+ghost use Rattle.certificates.specs.Numbers.{round_max};
 ghost use Rattle.moves.specs.State.{whole};
 ghost use Rattle.moves.specs.Outcome.{Did};
-ghost use Rattle.moves.specs.Moves.{advanced, raised, takenQC, makeOf, makeWithOf, certified, tcOuts, timedOut, advanceMost, certifyMost, tcOutsMost, timeOutMost};
+ghost use Rattle.moves.specs.Moves.{advanced, raised, taken_qc, make_of, make_with_of, certified, tc_outs, timed_out, advance_most, certify_most, tc_outs_most, time_out_most};
 
 use crate::state::{Core, Moved};
 use aggregator::tallies::{cleanup_timeouts, cleanup_votes, highs_at};
@@ -25,8 +25,8 @@ pub fn advance_round(
     at: usize,
     r: Round,
 ) -> Moved
-    requires { (r.0 ≤ roundMax) × (length votes.old ≡ votesLength) × (length timeouts.old ≡ timeoutsLength) × (at + advanceMost ≤ length out.old) }
-    ensures { Did advanceMost (advanced (whole core votes.old timeouts.old) r.0) out.old at result.core votes.new timeouts.new out.new result.at }
+    requires { (r.0 ≤ round_max) × (length votes.old ≡ votes_length) × (length timeouts.old ≡ timeouts_length) × (at + advance_most ≤ length out.old) }
+    ensures { Did advance_most (advanced (whole core votes.old timeouts.old) r.0) out.old at result.core votes.new timeouts.new out.new result.at }
 {
     let mut n = core;
     let mut end = at;
@@ -60,8 +60,8 @@ pub fn process_qc(
     at: usize,
     qc: QC,
 ) -> Moved
-    requires { (qc.round.0 ≤ roundMax) × (length votes.old ≡ votesLength) × (length timeouts.old ≡ timeoutsLength) × (at + advanceMost ≤ length out.old) }
-    ensures { Did advanceMost (takenQC (whole core votes.old timeouts.old) qc) out.old at result.core votes.new timeouts.new out.new result.at }
+    requires { (qc.round.0 ≤ round_max) × (length votes.old ≡ votes_length) × (length timeouts.old ≡ timeouts_length) × (at + advance_most ≤ length out.old) }
+    ensures { Did advance_most (taken_qc (whole core votes.old timeouts.old) qc) out.old at result.core votes.new timeouts.new out.new result.at }
 {
     let a = advance_round(core, votes, timeouts, out, at, qc.round);
     let n = update_high_qc(a.core, qc);
@@ -76,8 +76,8 @@ pub fn generate_proposal(
     out: &mut [u8],
     at: usize,
 ) -> usize
-    requires { at + makeSize ≤ length out.old }
-    ensures { Wrote makeSize (makeOf members.now own.0 core) out.old at out.new result }
+    requires { at + make_size ≤ length out.old }
+    ensures { Wrote make_size (make_of members.now own.0 core) out.old at out.new result }
 {
     let leader = get_leader(members, core.round);
     if leader.0 == own.0 {
@@ -98,8 +98,8 @@ pub fn generate_proposal_with(
     of: Round,
     names: Signers,
 ) -> usize
-    requires { (length highs.now ≡ membersMax) × (at + makeWithMost ≤ length out.old) }
-    ensures { Wrote makeWithMost (makeWithOf members.now own.0 core of.0 names.0 highs.now) out.old at out.new result }
+    requires { (length highs.now ≡ members_max) × (at + make_with_most ≤ length out.old) }
+    ensures { Wrote make_with_most (make_with_of members.now own.0 core of.0 names.0 highs.now) out.old at out.new result }
 {
     let leader = get_leader(members, core.round);
     if leader.0 == own.0 {
@@ -120,8 +120,8 @@ pub fn certify(
     at: usize,
     qc: QC,
 ) -> Moved
-    requires { (qc.round.0 ≤ roundMax) × (length votes.old ≡ votesLength) × (length timeouts.old ≡ timeoutsLength) × (at + certifyMost ≤ length out.old) }
-    ensures { Did certifyMost (certified members.now own.0 (whole core votes.old timeouts.old) qc) out.old at result.core votes.new timeouts.new out.new result.at }
+    requires { (qc.round.0 ≤ round_max) × (length votes.old ≡ votes_length) × (length timeouts.old ≡ timeouts_length) × (at + certify_most ≤ length out.old) }
+    ensures { Did certify_most (certified members.now own.0 (whole core votes.old timeouts.old) qc) out.old at result.core votes.new timeouts.new out.new result.at }
 {
     let a = process_qc(core, votes, timeouts, out, at, qc);
     let n = a.core;
@@ -140,8 +140,8 @@ fn write_tc(
     round: Round,
     names: Signers,
 ) -> usize
-    requires { (length highs.now ≡ membersMax) × (at + tcOutsMost ≤ length out.old) }
-    ensures { Wrote tcOutsMost (tcOuts members.now own.0 core round.0 names.0 highs.now) out.old at out.new result }
+    requires { (length highs.now ≡ members_max) × (at + tc_outs_most ≤ length out.old) }
+    ensures { Wrote tc_outs_most (tc_outs members.now own.0 core round.0 names.0 highs.now) out.old at out.new result }
 {
     let a = put_tc(out, at, round, names, highs);
     generate_proposal_with(members, own, core, highs, out, a, round, names)
@@ -159,8 +159,8 @@ fn write_tc_at(
     round: Round,
     names: Signers,
 ) -> usize
-    requires { (length timeouts.now ≡ timeoutsLength) × (i < timeoutTallies) × (at + tcOutsMost ≤ length out.old) }
-    ensures { Wrote tcOutsMost (tcOuts members.now own.0 core round.0 names.0 (highsAt timeouts.now i)) out.old at out.new result }
+    requires { (length timeouts.now ≡ timeouts_length) × (i < timeout_tallies) × (at + tc_outs_most ≤ length out.old) }
+    ensures { Wrote tc_outs_most (tc_outs members.now own.0 core round.0 names.0 (highs_at timeouts.now i)) out.old at out.new result }
 {
     let highs = highs_at(timeouts, i);
     write_tc(members, own, core, highs, out, at, round, names)
@@ -180,8 +180,8 @@ pub fn time_out(
     i: usize,
     names: Signers,
 ) -> Moved
-    requires { (round.0 ≤ roundMax) × (i < timeoutTallies) × (length votes.old ≡ votesLength) × (length timeouts.old ≡ timeoutsLength) × (at + timeOutMost ≤ length out.old) }
-    ensures { Did timeOutMost (timedOut members.now own.0 (whole core votes.old timeouts.old) round.0 names.0 (highsAt timeouts.old i)) out.old at result.core votes.new timeouts.new out.new result.at }
+    requires { (round.0 ≤ round_max) × (i < timeout_tallies) × (length votes.old ≡ votes_length) × (length timeouts.old ≡ timeouts_length) × (at + time_out_most ≤ length out.old) }
+    ensures { Did time_out_most (timed_out members.now own.0 (whole core votes.old timeouts.old) round.0 names.0 (highs_at timeouts.old i)) out.old at result.core votes.new timeouts.new out.new result.at }
 {
     if round.0 < core.round.0 {
         let end = write_tc_at(members, own, core, timeouts, i, out, at, round, names);

@@ -3,7 +3,7 @@ use certificates::messages::QC;
 use certificates::numbers::Round;
 
 // What a restart needs, and nothing else.
-#[derive(Drop)]
+#[derive(Clone, Copy)]
 pub struct Core {
     pub round: Round,
     pub last_voted_round: Round,
@@ -12,14 +12,14 @@ pub struct Core {
 }
 
 // What a part of a handler leaves: the state, and the place after what it wrote.
-#[derive(Drop)]
+#[derive(Clone, Copy)]
 pub struct Moved {
     pub core: Core,
     pub at: usize,
 }
 
 // What an event leaves, with its answer.
-#[derive(Drop)]
+#[derive(Clone, Copy)]
 pub struct Ran {
     pub answer: u16,
     pub core: Core,

@@ -15,10 +15,10 @@ use Rattle.certificates.specs.declared.config.Setup.{Setup}
 use Rattle.trace.specs.declared.events.Kind.{Kind}
 use Rattle.trace.specs.Form.{form_of}
 use Rattle.synchronizer.specs.declared.table.Slot.{Slot}
-use Rattle.replica.specs.Started.{roomy, shaped, startedOf}
-use Rattle.replica.specs.Step.{World, laid, stepped, started, sizedIn, onKind, onOther, onStart}
+use Rattle.replica.specs.Started.{roomy, shaped, started_of}
+use Rattle.replica.specs.Step.{World, laid, stepped, started, sized_in, on_kind, on_other, on_start}
 use Rattle.replica.proofs.Theorems.{past-unchanged}
-use Rattle.nickelhush.specs.Memory.{fit, Lent, lent, worldOf, packed, Handed, handedBy, unfitAnswer, hosted}
+use Rattle.nickelhush.specs.Memory.{fit, Lent, lent, world_of, packed, Handed, handed_by, unfit_answer, hosted}
 
 -- two outcomes that the contract permits are one
 pub host-unique : {a b : Handed} (m : Lent) (r : List ℕ) → a ≡ hosted m r → b ≡ hosted m r → a ≡ b
@@ -33,35 +33,35 @@ written_of answer written l = omega (arith, l)
 
 module _ (m : Lent) (r : List ℕ) where
   module _ (f : fit (length m.seat) (length m.core) ≡ true) where
-    pub host-as-step : hosted m r ≡ handedBy (laid (stepped (worldOf m) (length m.out) r) m.out)
+    pub host-as-step : hosted m r ≡ handed_by (laid (stepped (world_of m) (length m.out) r) m.out)
     unfolding hosted
     host-as-step = rw f
 
     -- the bytes past the written count are those that were there
-    pub host-past : drop (laid (stepped (worldOf m) (length m.out) r) m.out).written (hosted m r).left.out ≡ drop (laid (stepped (worldOf m) (length m.out) r) m.out).written m.out
-    unfolding handedBy
-    host-past = rw host-as-step (past-unchanged (stepped (worldOf m) (length m.out) r) m.out)
+    pub host-past : drop (laid (stepped (world_of m) (length m.out) r) m.out).written (hosted m r).left.out ≡ drop (laid (stepped (world_of m) (length m.out) r) m.out).written m.out
+    unfolding handed_by
+    host-past = rw host-as-step (past-unchanged (stepped (world_of m) (length m.out) r) m.out)
 
   pub unfit-unchanged : fit (length m.seat) (length m.core) ≡ false → (hosted m r).left ≡ m
   unfolding hosted
   unfit-unchanged f = rw f
 
 -- stakes, votes or timeouts of another length get the same answers
-pub unfit-as-unsized : (w : World) (room : ℕ) (r : List ℕ) → started w ≡ Setup.Bad → sizedIn w ≡ false → (stepped w room r).answer ≡ unfitAnswer (form_of r)
+pub unfit-as-unsized : (w : World) (room : ℕ) (r : List ℕ) → started w ≡ Setup.Bad → sized_in w ≡ false → (stepped w room r).answer ≡ unfit_answer (form_of r)
 unfolding stepped
 unfit-as-unsized w room r s z = by_kind (form_of r)
   where
-    of_room : (t : Bool) → roomy (length w.table) room ≡ t → (onStart w room r (started w)).answer ≡ unfitAnswer Kind.Start
+    of_room : (t : Bool) → roomy (length w.table) room ≡ t → (on_start w room r (started w)).answer ≡ unfit_answer Kind.Start
     of_room true h = rw (s, h, z)
     of_room false h = rw (s, h)
 
-    of-start : (onStart w room r (started w)).answer ≡ unfitAnswer Kind.Start
+    of-start : (on_start w room r (started w)).answer ≡ unfit_answer Kind.Start
     of-start = of_room (roomy (length w.table) room) refl
 
-    of_other : (k : Kind) → (onOther w room r k (started w)).answer ≡ 33
+    of_other : (k : Kind) → (on_other w room r k (started w)).answer ≡ 33
     of_other k = rw s
 
-    by_kind : (k : Kind) → (onKind w room r k).answer ≡ unfitAnswer k
+    by_kind : (k : Kind) → (on_kind w room r k).answer ≡ unfit_answer k
     by_kind Kind.Bad = refl
     by_kind Kind.Start = of-start
     by_kind Kind.Propose = of_other Kind.Propose
@@ -72,6 +72,6 @@ unfit-as-unsized w room r s z = by_kind (form_of r)
     by_kind Kind.Tick = of_other Kind.Tick
 
 -- what `nickelhush_new` leaves counts as not started, whatever the table
-pub new-not-started : (core stakes votes timeouts : List ℕ) (table : List Slot) (out : List ℕ) → started (worldOf (lent (replicate 2 0) core stakes votes timeouts table out)) ≡ Setup.Bad
-unfolding startedOf shaped
+pub new-not-started : (core stakes votes timeouts : List ℕ) (table : List Slot) (out : List ℕ) → started (world_of (lent (replicate 2 0) core stakes votes timeouts table out)) ≡ Setup.Bad
+unfolding started_of shaped
 new-not-started core stakes votes timeouts table out = refl

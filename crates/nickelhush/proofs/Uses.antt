@@ -31,11 +31,11 @@ use Rattle.replica.specs.declared.started.Seat.{Seat}
 use Rattle.replica.specs.declared.stages.Stepped.{Stepped}
 use Rattle.replica.specs.Started.{room_for}
 use Rattle.replica.specs.Step as spec
-use Rattle.replica.specs.Step.{leftBy, laid, world}
+use Rattle.replica.specs.Step.{left_by, laid, world}
 use Rattle.replica.proofs.Row.{seat, core, stepped, seat-makes, core-makes, stepped-makes}
 use Rattle.replica.specs.contracts.step.step as step-fn
 use Rattle.replica.proofs.step.step.Symbol.{name as #replica·step·step}
-use Rattle.nickelhush.specs.Memory.{seatLength, coreLength, ready, seatOf, core_of, seatNumbers, coreNumbers, packed, writtenMost, unfitAnswer}
+use Rattle.nickelhush.specs.Memory.{seat_length, core_length, ready, seat_of, core_of, seat_numbers, core_numbers, packed, written_most, unfit_answer}
 use Rattle.nickelhush.specs.contracts.memory.is_ready as is-ready-fn
 use Rattle.nickelhush.proofs.memory.is_ready.Symbol.{name as #nickelhush·memory·is-ready}
 use Rattle.nickelhush.specs.contracts.memory.seat_in as seat-in-fn
@@ -98,22 +98,22 @@ module _ {M : Type 1} {𝓤 : Ura M} (𝓛 : Logic 𝓤) (mem : Memory → SProp
 
     pub seat-in-use : Triple 𝓤 (𝓣.C #nickelhush·memory·seat-in) SeatInMet
         → (b₁ o₁ m₁ : ℕ) (ss : List ℕ) {e₁ : Item 𝓤} → AsShr 𝓛 u16 b₁ o₁ m₁ ss e₁
-        → length ss ≡ seatLength
+        → length ss ≡ seat_length
         → Gives 𝓛 𝓣.C #nickelhush·memory·seat-in (slice_val (b₁, o₁) m₁ ∷ []) (e₁)
-        (λ z (x : Seat × Unit {0}). (x.0 ≡ seatOf ss) × (Unit {0} × Is seat x.0 (z ∷ [])))
+        (λ z (x : Seat × Unit {0}). (x.0 ≡ seat_of ss) × (Unit {0} × Is seat x.0 (z ∷ [])))
         (λ x. e₁)
     seat-in-use known b₁ o₁ m₁ ss L₁ pre =
-        use-one 𝓛 fm #nickelhush·memory·seat-in (slice_val (b₁, o₁) m₁ ∷ []) [] tt tt tt tt seat (fact 𝓤 (length ss ≡ seatLength)) (fact_i 𝓤 (length ss ≡ seatLength) (emp 𝓤) pre) L₁ 0 (λ r _. r ≡ seatOf ss)
+        use-one 𝓛 fm #nickelhush·memory·seat-in (slice_val (b₁, o₁) m₁ ∷ []) [] tt tt tt tt seat (fact 𝓤 (length ss ≡ seat_length)) (fact_i 𝓤 (length ss ≡ seat_length) (emp 𝓤) pre) L₁ 0 (λ r _. r ≡ seat_of ss)
         (λ p. known (((L₁.lft p, tt), (L₁.share p, tt), tt, (at_name u16 b₁ o₁ (L₁.name p) ss, tt), (slice_val (b₁, o₁) m₁ ∷ [], tt)), tt))
 
     pub core-in-use : Triple 𝓤 (𝓣.C #nickelhush·memory·core-in) CoreInMet
         → (b₁ o₁ m₁ : ℕ) (cs : List ℕ) {e₁ : Item 𝓤} → AsShr 𝓛 u64 b₁ o₁ m₁ cs e₁
-        → length cs ≡ coreLength
+        → length cs ≡ core_length
         → Gives 𝓛 𝓣.C #nickelhush·memory·core-in (slice_val (b₁, o₁) m₁ ∷ []) (e₁)
         (λ z (x : Core × Unit {0}). (x.0 ≡ core_of cs) × (Unit {0} × Is core x.0 (z ∷ [])))
         (λ x. e₁)
     core-in-use known b₁ o₁ m₁ cs L₁ pre =
-        use-one 𝓛 fm #nickelhush·memory·core-in (slice_val (b₁, o₁) m₁ ∷ []) [] tt tt tt tt core (fact 𝓤 (length cs ≡ coreLength)) (fact_i 𝓤 (length cs ≡ coreLength) (emp 𝓤) pre) L₁ 0 (λ r _. r ≡ core_of cs)
+        use-one 𝓛 fm #nickelhush·memory·core-in (slice_val (b₁, o₁) m₁ ∷ []) [] tt tt tt tt core (fact 𝓤 (length cs ≡ core_length)) (fact_i 𝓤 (length cs ≡ core_length) (emp 𝓤) pre) L₁ 0 (λ r _. r ≡ core_of cs)
         (λ p. known (((L₁.lft p, tt), (L₁.share p, tt), tt, (at_name u64 b₁ o₁ (L₁.name p) cs, tt), (slice_val (b₁, o₁) m₁ ∷ [], tt)), tt))
 
     pub step-use : Triple 𝓤 (𝓣.C #replica·step·step) StepMet
@@ -125,14 +125,14 @@ module _ {M : Type 1} {𝓤 : Ura M} (𝓛 : Logic 𝓤) (mem : Memory → SProp
         → (b₆ o₆ m₆ : ℕ) (xs : List ℕ) {e₆ : Item 𝓤} → AsShr 𝓛 u8 b₆ o₆ m₆ xs e₆
         → (s : Seat) (s-val : Val) → Is seat s (s-val ∷ []) → (c : Core) (c-val : Val) → Is core c (c-val ∷ [])
         → Gives 𝓛 𝓣.C #replica·step·step (slice_val (b₁, o₁) m₁ ∷ slice_val (b₂, o₂) m₂ ∷ slice_val (b₃, o₃) m₃ ∷ slice_val (b₄, o₄) m₄ ∷ slice_val (b₅, o₅) m₅ ∷ slice_val (b₆, o₆) m₆ ∷ s-val ∷ c-val ∷ []) (e₁ ⊛ (e₂ ⊛ (e₃ ⊛ (e₄ ⊛ (e₅ ⊛ e₆)))))
-        (λ z (x : Stepped × (List ℕ × (List ℕ × (List ℕ × (List Slot × (List ℕ × (Unit {0} × Nones 2))))))). ((leftBy x.0 x.1.0 x.1.1.0 x.1.1.1.0 x.1.1.1.1.0 x.1.1.1.1.1.0 ≡ laid (spec.stepped (world s ks c vs ts ys) (length zs) xs) zs) × (x.0.written ≤ room_for (length ys))) × (((length x.1.0 ≡ m₁) × ((length x.1.1.0 ≡ m₂) × ((length x.1.1.1.0 ≡ m₃) × ((length x.1.1.1.1.0 ≡ m₄) × ((length x.1.1.1.1.1.0 ≡ m₅) × Unit {0}))))) × Is stepped x.0 (z ∷ [])))
+        (λ z (x : Stepped × (List ℕ × (List ℕ × (List ℕ × (List Slot × (List ℕ × (Unit {0} × Nones 2))))))). ((left_by x.0 x.1.0 x.1.1.0 x.1.1.1.0 x.1.1.1.1.0 x.1.1.1.1.1.0 ≡ laid (spec.stepped (world s ks c vs ts ys) (length zs) xs) zs) × (x.0.written ≤ room_for (length ys))) × (((length x.1.0 ≡ m₁) × ((length x.1.1.0 ≡ m₂) × ((length x.1.1.1.0 ≡ m₃) × ((length x.1.1.1.1.0 ≡ m₄) × ((length x.1.1.1.1.1.0 ≡ m₅) × Unit {0}))))) × Is stepped x.0 (z ∷ [])))
         (λ x. after₁ x.1.0 ⊛ (after₂ x.1.1.0 ⊛ (after₃ x.1.1.1.0 ⊛ (after₄ x.1.1.1.1.0 ⊛ (after₅ x.1.1.1.1.1.0 ⊛ e₆)))))
     step-use known b₁ o₁ m₁ ks L₁ b₂ o₂ m₂ vs L₂ b₃ o₃ m₃ ts L₃ b₄ o₄ m₄ ys L₄ b₅ o₅ m₅ zs L₅ b₆ o₆ m₆ xs L₆ s s-val s-is c c-val c-is =
         use-all 𝓛 fm #replica·step·step (slice_val (b₁, o₁) m₁ ∷ slice_val (b₂, o₂) m₂ ∷ slice_val (b₃, o₃) m₃ ∷ slice_val (b₄, o₄) m₄ ∷ slice_val (b₅, o₅) m₅ ∷ slice_val (b₆, o₆) m₆ ∷ s-val ∷ c-val ∷ [])
         (seat ∷ core ∷ []) (seat-makes 𝓛, (core-makes 𝓛, tt)) (s, (c, tt)) (s-val ∷ [], (c-val ∷ [], tt)) (s-is, (c-is, tt)) stepped (emp 𝓤) (id⊢ 𝓤 (emp 𝓤))
         (and-loan 𝓛 L₁ (and-loan 𝓛 L₂ (and-loan 𝓛 L₃ (and-loan 𝓛 L₄ (and-loan 𝓛 L₅ (one-loan 𝓛 L₆ 2 (owns (seat ∷ core ∷ []) (s, (c, tt)) (s-val ∷ [], (c-val ∷ [], tt)))
         (owns_make 𝓛 (seat ∷ core ∷ []) (Ises (seat ∷ core ∷ [])) (seat-makes 𝓛, (core-makes 𝓛, tt)) (s, (c, tt)) (s-val ∷ [], (c-val ∷ [], tt)) (s-is, (c-is, tt)))))))))
-        (λ r l. (leftBy (r) l.0 l.1.0 l.1.1.0 l.1.1.1.0 l.1.1.1.1.0 ≡ laid (spec.stepped (world s ks c vs ts ys) (length zs) xs) zs) × (r.written ≤ room_for (length ys)))
+        (λ r l. (left_by (r) l.0 l.1.0 l.1.1.0 l.1.1.1.0 l.1.1.1.1.0 ≡ laid (spec.stepped (world s ks c vs ts ys) (length zs) xs) zs) × (r.written ≤ room_for (length ys)))
         (λ p. known (
           (
             (L₁.lft p.0, (L₂.lft p.1.0, (L₃.lft p.1.1.0, (L₄.lft p.1.1.1.0, (L₅.lft p.1.1.1.1.0, (L₆.lft p.1.1.1.1.1, tt)))))),
@@ -148,16 +148,16 @@ module _ {M : Type 1} {𝓤 : Ura M} (𝓛 : Logic 𝓤) (mem : Memory → SProp
         → (b₁ o₁ m₁ : ℕ) (ss : List ℕ) {e₁ : Item 𝓤} {after₁ : List ℕ → Item 𝓤} → AsMut 𝓛 u16 b₁ o₁ m₁ ss e₁ after₁
         → (b₂ o₂ m₂ : ℕ) (cs : List ℕ) {e₂ : Item 𝓤} {after₂ : List ℕ → Item 𝓤} → AsMut 𝓛 u64 b₂ o₂ m₂ cs e₂ after₂
         → (s : Stepped) (s-val : Val) → Is stepped s (s-val ∷ [])
-        → (length ss ≡ seatLength) × (length cs ≡ coreLength) × (s.written ≤ writtenMost)
+        → (length ss ≡ seat_length) × (length cs ≡ core_length) × (s.written ≤ written_most)
         → Gives 𝓛 𝓣.C #nickelhush·memory·keep (slice_val (b₁, o₁) m₁ ∷ slice_val (b₂, o₂) m₂ ∷ s-val ∷ []) (e₁ ⊛ e₂)
-        (λ z (x : ℕ × (List ℕ × (List ℕ × Nones 1))). ((x.0 ≡ packed s.answer s.written) × (x.1.0 ≡ seatNumbers s.seat) × (x.1.1.0 ≡ coreNumbers s.core)) × (((length x.1.0 ≡ m₁) × (length x.1.1.0 ≡ m₂)) × Is u32 x.0 (z ∷ [])))
+        (λ z (x : ℕ × (List ℕ × (List ℕ × Nones 1))). ((x.0 ≡ packed s.answer s.written) × (x.1.0 ≡ seat_numbers s.seat) × (x.1.1.0 ≡ core_numbers s.core)) × (((length x.1.0 ≡ m₁) × (length x.1.1.0 ≡ m₂)) × Is u32 x.0 (z ∷ [])))
         (λ x. after₁ x.1.0 ⊛ after₂ x.1.1.0)
     keep-use known b₁ o₁ m₁ ss L₁ b₂ o₂ m₂ cs L₂ s s-val s-is pre =
         use-all 𝓛 fm #nickelhush·memory·keep (slice_val (b₁, o₁) m₁ ∷ slice_val (b₂, o₂) m₂ ∷ s-val ∷ [])
-        (stepped ∷ []) (stepped-makes 𝓛, tt) (s, tt) (s-val ∷ [], tt) (s-is, tt) u32 (fact 𝓤 ((length ss ≡ seatLength) × (length cs ≡ coreLength) × (s.written ≤ writtenMost))) (fact_i 𝓤 ((length ss ≡ seatLength) × (length cs ≡ coreLength) × (s.written ≤ writtenMost)) (emp 𝓤) pre)
+        (stepped ∷ []) (stepped-makes 𝓛, tt) (s, tt) (s-val ∷ [], tt) (s-is, tt) u32 (fact 𝓤 ((length ss ≡ seat_length) × (length cs ≡ core_length) × (s.written ≤ written_most))) (fact_i 𝓤 ((length ss ≡ seat_length) × (length cs ≡ core_length) × (s.written ≤ written_most)) (emp 𝓤) pre)
         (and-loan 𝓛 L₁ (one-loan 𝓛 L₂ 1 (owns (stepped ∷ []) (s, tt) (s-val ∷ [], tt))
         (owns_make 𝓛 (stepped ∷ []) (Ises (stepped ∷ [])) (stepped-makes 𝓛, tt) (s, tt) (s-val ∷ [], tt) (s-is, tt))))
-        (λ r l. (r ≡ packed s.answer s.written) × (l.0 ≡ seatNumbers s.seat) × (l.1.0 ≡ coreNumbers s.core))
+        (λ r l. (r ≡ packed s.answer s.written) × (l.0 ≡ seat_numbers s.seat) × (l.1.0 ≡ core_numbers s.core))
         (λ p. known (
           (
             (L₁.lft p.0, (L₂.lft p.1, tt)),
@@ -172,8 +172,8 @@ module _ {M : Type 1} {𝓤 : Ura M} (𝓛 : Logic 𝓤) (mem : Memory → SProp
     pub refuse-use : Triple 𝓤 (𝓣.C #nickelhush·memory·refuse) RefuseMet
         → (b₁ o₁ m₁ : ℕ) (xs : List ℕ) {e₁ : Item 𝓤} → AsShr 𝓛 u8 b₁ o₁ m₁ xs e₁
         → Gives 𝓛 𝓣.C #nickelhush·memory·refuse (slice_val (b₁, o₁) m₁ ∷ []) (e₁)
-        (λ z (x : ℕ × Unit {0}). (x.0 ≡ packed (unfitAnswer (form_of xs)) 0) × (Unit {0} × Is u32 x.0 (z ∷ [])))
+        (λ z (x : ℕ × Unit {0}). (x.0 ≡ packed (unfit_answer (form_of xs)) 0) × (Unit {0} × Is u32 x.0 (z ∷ [])))
         (λ x. e₁)
     refuse-use known b₁ o₁ m₁ xs L₁ =
-        use-one 𝓛 fm #nickelhush·memory·refuse (slice_val (b₁, o₁) m₁ ∷ []) [] tt tt tt tt u32 (emp 𝓤) (id⊢ 𝓤 (emp 𝓤)) L₁ 0 (λ r _. r ≡ packed (unfitAnswer (form_of xs)) 0)
+        use-one 𝓛 fm #nickelhush·memory·refuse (slice_val (b₁, o₁) m₁ ∷ []) [] tt tt tt tt u32 (emp 𝓤) (id⊢ 𝓤 (emp 𝓤)) L₁ 0 (λ r _. r ≡ packed (unfit_answer (form_of xs)) 0)
         (λ p. known (((L₁.lft p, tt), (L₁.share p, tt), tt, (at_name u8 b₁ o₁ (L₁.name p) xs, tt), (slice_val (b₁, o₁) m₁ ∷ [], tt)), tt))

@@ -1,8 +1,8 @@
 // What a host calls. A slice is a pointer and a length in C. None of these has a `requires`: any
 // memory that may lawfully be lent gets its answer.
 ghost use Rattle.std.specs.Prelude.{◌≡◌, ◌%◌, ◌/◌, length, get_or, replicate};
-ghost use Rattle.trace.specs.Record.{splitOf};
-ghost use Rattle.nickelhush.specs.Memory.{lent, handed, hosted, taken_of, size_of, roomOf};
+ghost use Rattle.trace.specs.Record.{split_of};
+ghost use Rattle.nickelhush.specs.Memory.{lent, handed, hosted, taken_of, size_of, room_of};
 
 use crate::memory::{
     CORE_LENGTH, SEAT_LENGTH, clear16, clear32, core_in, is_ready, keep, number_at, refuse, seat_in,
@@ -77,7 +77,7 @@ pub extern "C" fn nickelhush_new(
 // of the trace; 1 where the trace ends in a record, or the length is above the most.
 #[unsafe(no_mangle)]
 pub extern "C" fn nickelhush_record(trace: &[u8]) -> usize
-    ensures { result ≡ taken_of (splitOf trace.now) }
+    ensures { result ≡ taken_of (split_of trace.now) }
 {
     match split(trace) {
         Front::End => 0,
@@ -132,7 +132,7 @@ pub extern "C" fn nickelhush_size(part: u32) -> usize
 // The bytes of output to lend with a table of so many slots, and 0 where no table has so many.
 #[unsafe(no_mangle)]
 pub extern "C" fn nickelhush_room(slots: usize) -> usize
-    ensures { result ≡ roomOf slots }
+    ensures { result ≡ room_of slots }
 {
     if slots == 0 {
         return 0;

@@ -3,5 +3,7 @@
 //
 // `memory` reads the replica's record out of lent numbers and writes it back, `exports` has the
 // exported functions.
+#![tactic(auto)]
+
 pub mod exports;
 pub mod memory;

@@ -2,7 +2,7 @@
 // event's result as one number.
 ghost use Rattle.std.specs.Prelude.{◌≡◌, ◌≤◌, length, replicate, get_or};
 ghost use Rattle.trace.specs.Form.{form_of};
-ghost use Rattle.nickelhush.specs.Memory.{seatLength, coreLength, fit, ready, seatOf, core_of, seatNumbers, coreNumbers, packed, writtenMost, unfitAnswer};
+ghost use Rattle.nickelhush.specs.Memory.{seat_length, core_length, fit, ready, seat_of, core_of, seat_numbers, core_numbers, packed, written_most, unfit_answer};
 
 use certificates::error::{BAD_RECORD, NO_ROOM, NOT_STARTED};
 use certificates::messages::QC;
@@ -43,8 +43,8 @@ pub(crate) fn is_ready(seat: &[u16], core: &[u64], input: &[u8]) -> bool
 }
 
 pub(crate) fn seat_in(seat: &[u16]) -> Seat
-    requires { length seat.now ≡ seatLength }
-    ensures { result ≡ seatOf seat.now }
+    requires { length seat.now ≡ seat_length }
+    ensures { result ≡ seat_of seat.now }
 {
     let own = Place(seat[1]);
     Seat {
@@ -54,7 +54,7 @@ pub(crate) fn seat_in(seat: &[u16]) -> Seat
 }
 
 pub(crate) fn core_in(core: &[u64]) -> Core
-    requires { length core.now ≡ coreLength }
+    requires { length core.now ≡ core_length }
     ensures { result ≡ core_of core.now }
 {
     let hash = Hash {
@@ -77,16 +77,16 @@ pub(crate) fn core_in(core: &[u64]) -> Core
 }
 
 fn seat_out(seat: &mut [u16], s: Seat)
-    requires { length seat.old ≡ seatLength }
-    ensures { seat.new ≡ seatNumbers s }
+    requires { length seat.old ≡ seat_length }
+    ensures { seat.new ≡ seat_numbers s }
 {
     seat[0] = s.count;
     seat[1] = s.own.0;
 }
 
 fn core_out(core: &mut [u64], c: Core)
-    requires { length core.old ≡ coreLength }
-    ensures { core.new ≡ coreNumbers c }
+    requires { length core.old ≡ core_length }
+    ensures { core.new ≡ core_numbers c }
 {
     let qc = c.high_qc;
     let hash = qc.hash;
@@ -103,7 +103,7 @@ fn core_out(core: &mut [u64], c: Core)
 
 // An event's result as one number: the answer in the low 16 bits, the bytes written in the high 16.
 fn pack(answer: u16, written: usize) -> u32
-    requires { written ≤ writtenMost }
+    requires { written ≤ written_most }
     ensures { result ≡ packed answer written }
 {
     (answer as u32) + 65536 * (written as u32)
@@ -111,8 +111,8 @@ fn pack(answer: u16, written: usize) -> u32
 
 // Writes back what an event left, and gives its result.
 pub(crate) fn keep(seat: &mut [u16], core: &mut [u64], s: Stepped) -> u32
-    requires { (length seat.old ≡ seatLength) × (length core.old ≡ coreLength) × (s.written ≤ writtenMost) }
-    ensures { (result ≡ packed s.answer s.written) × (seat.new ≡ seatNumbers s.seat) × (core.new ≡ coreNumbers s.core) }
+    requires { (length seat.old ≡ seat_length) × (length core.old ≡ core_length) × (s.written ≤ written_most) }
+    ensures { (result ≡ packed s.answer s.written) × (seat.new ≡ seat_numbers s.seat) × (core.new ≡ core_numbers s.core) }
 {
     let place = s.seat;
     let state = s.core;
@@ -124,7 +124,7 @@ pub(crate) fn keep(seat: &mut [u16], core: &mut [u64], s: Stepped) -> u32
 // The answer where the seat or the core has another length: the memory counts as not started, and no
 // replica can start in it.
 fn unfit_answer(kind: Kind) -> u16
-    ensures { result ≡ unfitAnswer kind }
+    ensures { result ≡ unfit_answer kind }
 {
     match kind {
         Kind::Bad => BAD_RECORD,
@@ -139,7 +139,7 @@ fn unfit_answer(kind: Kind) -> u16
 }
 
 pub(crate) fn refuse(input: &[u8]) -> u32
-    ensures { result ≡ packed (unfitAnswer (form_of input.now)) 0 }
+    ensures { result ≡ packed (unfit_answer (form_of input.now)) 0 }
 {
     pack(unfit_answer(form_of(input)), 0)
 }

@@ -13,7 +13,7 @@ use lib.Count.{ones, ones_step, ones-le, count_trailing_zeros}
 use lib.Dec.{lit<}
 use lib.ListN.{length}
 use lib.Pow.{shl_exact, pow_pos}
-use Rattle.outputs.specs.Records.{membersMax, placesFrom, places_of}
+use Rattle.outputs.specs.Records.{members_max, places_from, places_of}
 
 two : (d : ℕ) → d < 2 → (d ≡ 0) ⊎ (d ≡ 1)
 two zero h = inl refl
@@ -28,8 +28,8 @@ half k w h = omega (arith, pow-suc 2 k)
 
 -- ---- how many
 
-pub length-places : (k p w : ℕ) → w < 2 ^ k → length (placesFrom k p w) ≡ ones w
-unfolding placesFrom
+pub length-places : (k p w : ℕ) → w < 2 ^ k → length (places_from k p w) ≡ ones w
+unfolding places_from
 length-places zero p w h = let e : ones w ≤ 0 = ones-le 0 w h in omega arith
 length-places (suc k) p w h =
     ⊎_elim
@@ -38,16 +38,16 @@ length-places (suc k) p w h =
     (digit w)
 
 -- a word of 64 bits has at most 64 ones
-pub ones-most : (w : ℕ) → w < 2 ^ 64 → ones w ≤ membersMax
+pub ones-most : (w : ℕ) → w < 2 ^ 64 → ones w ≤ members_max
 ones-most w h = ones-le 64 w h
 
-pub places-none : (k p : ℕ) → placesFrom k p 0 ≡ []
-unfolding placesFrom
+pub places-none : (k p : ℕ) → places_from k p 0 ≡ []
+unfolding places_from
 places-none zero p = refl
 places-none (suc k) p = places-none k (suc p)
 
-pub places-most : (k p w : ℕ) → length (placesFrom k p w) ≤ k
-unfolding placesFrom
+pub places-most : (k p w : ℕ) → length (places_from k p w) ≤ k
+unfolding places_from
 places-most zero p w = omega arith
 places-most (suc k) p w =
     ⊎_elim (λ e. rw e (omega (arith, places-most k (suc p) (w / 2)))) (λ e. rw e (omega (arith, places-most k (suc p) (w / 2)))) (digit w)
@@ -68,8 +68,8 @@ low-le (suc k) w p h =
     (λ e. rw e (omega arith))
     (digit w)
 
-pub places-low : (k p w : ℕ) → 0 < w → w < 2 ^ k → placesFrom k p w ≡ (p + count_trailing_zeros k w) ∷ placesFrom k p (w - 2 ^ count_trailing_zeros k w)
-unfolding placesFrom count_trailing_zeros
+pub places-low : (k p w : ℕ) → 0 < w → w < 2 ^ k → places_from k p w ≡ (p + count_trailing_zeros k w) ∷ places_from k p (w - 2 ^ count_trailing_zeros k w)
+unfolding places_from count_trailing_zeros
 places-low zero p w h l = absurd (omega arith)
 places-low (suc k) p w h l =
     ⊎_elim
@@ -88,7 +88,7 @@ places-low (suc k) p w h l =
 
 -- what a turn of a loop over the set places needs of the lowest one, t
 pub record Lowest (w t : ℕ) : Type 0 where
-  pub below : t < membersMax
+  pub below : t < members_max
   pub shifted : 1 * 2 ^ t % 2 ^ 64 ≡ 2 ^ t
   pub positive : 0 < 2 ^ t
   pub inside : 2 ^ t ≤ w
@@ -100,7 +100,7 @@ unfolding places_of
 lowest w h l =
     let t = count_trailing_zeros 64 w in
     let below : t < 64 = low-lt 64 w h l in
-    let places : placesFrom 64 0 w ≡ t ∷ placesFrom 64 0 (w - 2 ^ t) = places-low 64 0 w h l ∙ rw zero-add in
+    let places : places_from 64 0 w ≡ t ∷ places_from 64 0 (w - 2 ^ t) = places-low 64 0 w h l ∙ rw zero-add in
     let less : w - 2 ^ t < 2 ^ 64 = omega arith in
     record {
       below = below;

@@ -11,11 +11,11 @@ use lib.Dec.{lit<}
 use lib.ListN.{length, take, drop, length-append}
 use lib.Seq.{take_at, drop_at, drop-drop}
 use Rattle.certificates.specs.declared.numbers.Hash.{Hash}
-use Rattle.certificates.specs.Num.{le, num_at, hashAt}
+use Rattle.certificates.specs.Num.{le, num_at, hash_at}
 use Rattle.certificates.proofs.Bytes.{leb_yes, le-append, single, num-in, hash-read, hash-in}
-use Rattle.outputs.specs.Fields.{Field, number, hash, digits, hashBytes, bytes_of}
-use Rattle.outputs.specs.Records.{Rec, vote, timeout, tc, make, makeWith, commit, sync, cleanProposer, cleanMempool, timerReset, answer}
-use Rattle.outputs.specs.Records.{kind_of, body_of, fields_of, framed, enc, encAll, size_of}
+use Rattle.outputs.specs.Fields.{Field, number, hash, digits, hash_bytes, bytes_of}
+use Rattle.outputs.specs.Records.{Rec, vote, timeout, tc, make, make_with, commit, sync, clean_proposer, clean_mempool, timer_reset, answer}
+use Rattle.outputs.specs.Records.{kind_of, body_of, fields_of, framed, enc, enc_all, size_of}
 use Rattle.outputs.specs.Reads.{WholeHash, Sized, Read}
 use Rattle.outputs.proofs.Writes.{length_digits}
 use Rattle.outputs.proofs.Sizes.{length-enc, size-most}
@@ -57,31 +57,31 @@ num-back w x xs ys h = num-at w x xs ys refl refl h
 
 -- ---- a hash
 
-module _ (h : Hash) {s : List ℕ} (xs ys : List ℕ) {at : ℕ} (e : s ≡ xs ++ (hashBytes h ++ ys)) (l : length xs ≡ at) where
+module _ (h : Hash) {s : List ℕ} (xs ys : List ℕ) {at : ℕ} (e : s ≡ xs ++ (hash_bytes h ++ ys)) (l : length xs ≡ at) where
   -- one of its four numbers, k bytes on
-  word : (k x : ℕ) {j : ℕ} → at + k ≡ j → take 8 (drop k (hashBytes h ++ ys)) ≡ digits 8 x → x < 256 ^ 8 → x ≡ le (take 8 (drop j s))
+  word : (k x : ℕ) {j : ℕ} → at + k ≡ j → take 8 (drop k (hash_bytes h ++ ys)) ≡ digits 8 x → x < 256 ^ 8 → x ≡ le (take 8 (drop j s))
   word k x f p m =
-      let rest : drop at s ≡ hashBytes h ++ ys = ap (drop at) e ∙ drop_at xs (hashBytes h ++ ys) at l in
-      let here : drop (at + k) s ≡ drop k (hashBytes h ++ ys) = sym (drop-drop k at s) ∙ ap (drop k) rest in
+      let rest : drop at s ≡ hash_bytes h ++ ys = ap (drop at) e ∙ drop_at xs (hash_bytes h ++ ys) at l in
+      let here : drop (at + k) s ≡ drop k (hash_bytes h ++ ys) = sym (drop-drop k at s) ∙ ap (drop k) rest in
       rw (← f, here, p) (sym (le-digits 8 x m))
 
-  hash_at : WholeHash h → hashAt s at ≡ h
-  unfolding hashBytes digits
-  hash_at m =
-      sym (hash-in s at (leb_yes (within xs (hashBytes h) ys e l)) refl
+  hash_at_lem : WholeHash h → hash_at s at ≡ h
+  unfolding hash_bytes digits
+  hash_at_lem m =
+      sym (hash-in s at (leb_yes (within xs (hash_bytes h) ys e l)) refl
       (hash-read s at
       (word 0 h.a (add-zero at) refl m.a)
       (word 8 h.b refl refl m.b)
       (word 16 h.c refl refl m.c)
       (word 24 h.d refl refl m.d)))
 
-pub hash-back : (h : Hash) (xs ys : List ℕ) → WholeHash h → hashAt (xs ++ (hashBytes h ++ ys)) (length xs) ≡ h
-hash-back h xs ys m = hash_at h xs ys refl refl m
+pub hash-back : (h : Hash) (xs ys : List ℕ) → WholeHash h → hash_at (xs ++ (hash_bytes h ++ ys)) (length xs) ≡ h
+hash-back h xs ys m = hash_at_lem h xs ys refl refl m
 
 -- ---- fields in a row
 
-length-hash : (h : Hash) → length (hashBytes h) ≡ 32
-unfolding hashBytes digits
+length-hash : (h : Hash) → length (hash_bytes h) ≡ 32
+unfolding hash_bytes digits
 length-hash h = refl
 
 fields_at : (fs : List Field) {s : List ℕ} (xs ys : List ℕ) {at : ℕ} → s ≡ xs ++ (bytes_of fs ++ ys) → length xs ≡ at → Sized fs → Read s at fs
@@ -93,9 +93,9 @@ fields_at (number w x ∷ fs) xs ys e l m =
       fields_at fs (xs ++ digits w x) ys (f ∙ sym (append_assoc xs (digits w x) (bytes_of fs ++ ys))) (rw (length-append, length_digits w x, l)) m.1,
     )
 fields_at (hash h ∷ fs) xs ys e l m =
-    let f = e ∙ ap (λ (r : List ℕ). xs ++ r) (append_assoc (hashBytes h) (bytes_of fs) ys) in (
-      hash_at h xs (bytes_of fs ++ ys) f l m.0,
-      fields_at fs (xs ++ hashBytes h) ys (f ∙ sym (append_assoc xs (hashBytes h) (bytes_of fs ++ ys))) (rw (length-append, length-hash h, l)) m.1,
+    let f = e ∙ ap (λ (r : List ℕ). xs ++ r) (append_assoc (hash_bytes h) (bytes_of fs) ys) in (
+      hash_at_lem h xs (bytes_of fs ++ ys) f l m.0,
+      fields_at fs (xs ++ hash_bytes h) ys (f ∙ sym (append_assoc xs (hash_bytes h) (bytes_of fs ++ ys))) (rw (length-append, length-hash h, l)) m.1,
     )
 
 pub fields_back : (fs : List Field) (xs ys : List ℕ) → Sized fs → Read (xs ++ (bytes_of fs ++ ys)) (length xs) fs
@@ -108,12 +108,12 @@ kind-sized (vote to block round) = lit< tt
 kind-sized (timeout round high) = lit< tt
 kind-sized (tc round names highs) = lit< tt
 kind-sized (make round high) = lit< tt
-kind-sized (makeWith round high of names highs) = lit< tt
+kind-sized (make_with round high of names highs) = lit< tt
 kind-sized (commit digest round) = lit< tt
 kind-sized (sync parent block author) = lit< tt
-kind-sized (cleanProposer b0 b1 block) = lit< tt
-kind-sized (cleanMempool round) = lit< tt
-kind-sized timerReset = lit< tt
+kind-sized (clean_proposer b0 b1 block) = lit< tt
+kind-sized (clean_mempool round) = lit< tt
+kind-sized timer_reset = lit< tt
 kind-sized (answer n) = lit< tt
 
 length-framed : (r : Rec) → size_of r ≡ 4 + length (bytes_of (body_of r))
@@ -134,13 +134,13 @@ head-back r xs ys =
     (omega (arith, t.0, length-framed r), t.1.0)
 
 -- and what is behind it
-pub rest_back : (r : Rec) (rs : List Rec) (ys : List ℕ) → drop (size_of r) (encAll (r ∷ rs) ++ ys) ≡ encAll rs ++ ys
-unfolding encAll
-rest_back r rs ys = rw (append_assoc) (drop_at (enc r) (encAll rs ++ ys) (size_of r) (length-enc r))
+pub rest_back : (r : Rec) (rs : List Rec) (ys : List ℕ) → drop (size_of r) (enc_all (r ∷ rs) ++ ys) ≡ enc_all rs ++ ys
+unfolding enc_all
+rest_back r rs ys = rw (append_assoc) (drop_at (enc r) (enc_all rs ++ ys) (size_of r) (length-enc r))
 
 -- as `record-back` reads for one kind
 pub vote-back : (to : ℕ) (block : Hash) (round : ℕ) → to < 256 ^ 2 → WholeHash block → round < 256 ^ 8 → (s : List ℕ) → s ≡ enc (vote to block round)
-    → (num_at 2 s 2 ≡ 0x0101) × (num_at 2 s 4 ≡ to) × (hashAt s 6 ≡ block) × (num_at 8 s 38 ≡ round)
+    → (num_at 2 s 2 ≡ 0x0101) × (num_at 2 s 4 ≡ to) × (hash_at s 6 ≡ block) × (num_at 8 s 38 ≡ round)
 unfolding body_of framed
 vote-back to block round a b c s e =
     let t = rw (append-nil, ← e) at (record-back (vote to block round) [] [] (a, (b, (c, tt)))) in

@@ -14,34 +14,34 @@ use native.Mathlib.Omega.{arith}
 use lib.ListN.{length, take, drop, length-append}
 use lib.Seq.{sets, sets-eq, length-sets}
 use Rattle.outputs.specs.Put.{Put, PutTo, Wrote}
-use Rattle.outputs.specs.Records.{Rec, enc, encAll}
+use Rattle.outputs.specs.Records.{Rec, enc, enc_all}
 use Rattle.outputs.proofs.Writes.{then, nothing, sets_behind, take-sets, drop-sets}
 
 -- ---- lists of records
 
-pub all_append : (rs ss : List Rec) → encAll (rs ++ ss) ≡ encAll rs ++ encAll ss
-unfolding encAll
+pub all_append : (rs ss : List Rec) → enc_all (rs ++ ss) ≡ enc_all rs ++ enc_all ss
+unfolding enc_all
 all_append [] ss = refl
 all_append (r ∷ rs) ss = rw (all_append rs ss, append_assoc)
 
-pub all_none : encAll [] ≡ []
-unfolding encAll
+pub all_none : enc_all [] ≡ []
+unfolding enc_all
 all_none = refl
 
-pub all_one : (r : Rec) → encAll (r ∷ []) ≡ enc r
-unfolding encAll
+pub all_one : (r : Rec) → enc_all (r ∷ []) ≡ enc r
+unfolding enc_all
 all_one r = append-nil (enc r)
 
 -- ---- what was written
 
-pub put-wrote : {k n at next : ℕ} {outs : List Rec} {before after : List ℕ} → Put before at n (encAll outs) after next → n ≤ k → Wrote k outs before at after next
+pub put-wrote : {k n at next : ℕ} {outs : List Rec} {before after : List ℕ} → Put before at n (enc_all outs) after next → n ≤ k → Wrote k outs before at after next
 put-wrote p h = record { place = omega (arith, p.place, p.size); stored = p.stored; room = omega (arith, p.place) }
 
-pub wrote-put : {k at next : ℕ} {outs : List Rec} {before after : List ℕ} → Wrote k outs before at after next → Put before at (length (encAll outs)) (encAll outs) after next
+pub wrote-put : {k at next : ℕ} {outs : List Rec} {before after : List ℕ} → Wrote k outs before at after next → Put before at (length (enc_all outs)) (enc_all outs) after next
 wrote-put w = record { place = w.place; size = refl; stored = w.stored }
 
 pub wrote_none : (k : ℕ) (out : List ℕ) (at : ℕ) → Wrote k [] out at out at
-unfolding encAll
+unfolding enc_all
 wrote_none k out at = put-wrote (nothing out at) (omega arith)
 
 pub wrote_one : {k at next : ℕ} (r : Rec) {before after : List ℕ} → Put before at k (enc r) after next → Wrote k (r ∷ []) before at after next
@@ -62,9 +62,9 @@ wrote_then {xs = xs} {ys = ys} p q =
 -- ---- from the last to the first
 
 -- a record that is stored behind the place of others, and then those
-pub store-behind : (xs : List Rec) (r : Rec) (at : ℕ) {before mid : List ℕ} {here l next : ℕ} → here ≡ at + length (encAll xs) → Put before here l (enc r) mid next
-    → sets mid at (encAll xs) ≡ sets before at (encAll (xs ++ r ∷ []))
-store-behind xs r at {before} e p = rw (p.stored, e, all_append xs (r ∷ []), all_one r) (sets_behind (encAll xs) (enc r) before at)
+pub store-behind : (xs : List Rec) (r : Rec) (at : ℕ) {before mid : List ℕ} {here l next : ℕ} → here ≡ at + length (enc_all xs) → Put before here l (enc r) mid next
+    → sets mid at (enc_all xs) ≡ sets before at (enc_all (xs ++ r ∷ []))
+store-behind xs r at {before} e p = rw (p.stored, e, all_append xs (r ∷ []), all_one r) (sets_behind (enc_all xs) (enc r) before at)
 
 pub wrote-before : {k l at here next : ℕ} {xs : List Rec} (r : Rec) {before mid after : List ℕ} → Put before here l (enc r) mid next
     → Wrote k xs mid at after here → Wrote (k + l) (xs ++ r ∷ []) before at after next
@@ -77,18 +77,18 @@ wrote-before {at = at} {xs = xs} r p q =
 
 -- the same as the invariant of a loop: the records that are left, stored from `at` on, make all of them
 pub record Behind (before : List ℕ) (at : ℕ) (all left : List Rec) (out : List ℕ) : Type 0 where
-  pub stored : sets out at (encAll left) ≡ sets before at (encAll all)
+  pub stored : sets out at (enc_all left) ≡ sets before at (enc_all all)
 
 pub behind-all : (before : List ℕ) (at : ℕ) (all : List Rec) → Behind before at all all before
 behind-all before at all = record { stored = refl }
 
 pub behind-less : {before out out' : List ℕ} {at here l next : ℕ} {all : List Rec} (xs : List Rec) (r : Rec) → Behind before at all (xs ++ r ∷ []) out
-    → here ≡ at + length (encAll xs) → Put out here l (enc r) out' next → Behind before at all xs out'
+    → here ≡ at + length (enc_all xs) → Put out here l (enc r) out' next → Behind before at all xs out'
 behind-less {at = at} xs r b e p = record { stored = store-behind xs r at e p ∙ b.stored }
 
-pub behind-none : (k : ℕ) {before out : List ℕ} {at : ℕ} {all : List Rec} → Behind before at all [] out → length (encAll all) ≤ k
-    → Wrote k all before at out (at + length (encAll all))
-unfolding encAll
+pub behind-none : (k : ℕ) {before out : List ℕ} {at : ℕ} {all : List Rec} → Behind before at all [] out → length (enc_all all) ≤ k
+    → Wrote k all before at out (at + length (enc_all all))
+unfolding enc_all
 behind-none k b h = record { place = refl; stored = b.stored; room = omega arith }
 
 -- ---- a larger bound
@@ -99,29 +99,29 @@ wrote-more w h = record { place = w.place; stored = w.stored; room = omega (arit
 -- ---- what was not
 
 pub wrote-length : {k at next : ℕ} {outs : List Rec} {before after : List ℕ} → Wrote k outs before at after next → length after ≡ length before
-wrote-length {at = at} {outs = outs} {before = before} w = ap length w.stored ∙ length-sets before at (encAll outs)
+wrote-length {at = at} {outs = outs} {before = before} w = ap length w.stored ∙ length-sets before at (enc_all outs)
 
 pub wrote-front : {k at next : ℕ} {outs : List Rec} {before after : List ℕ} → Wrote k outs before at after next → take at after ≡ take at before
-wrote-front {at = at} {outs = outs} {before = before} w = ap (take at) w.stored ∙ take-sets (encAll outs) before at at (omega arith)
+wrote-front {at = at} {outs = outs} {before = before} w = ap (take at) w.stored ∙ take-sets (enc_all outs) before at at (omega arith)
 
 pub wrote-back : {k at next : ℕ} {outs : List Rec} {before after : List ℕ} → Wrote k outs before at after next → drop next after ≡ drop next before
 wrote-back {at = at} {next = next} {outs = outs} {before = before} w =
-    ap (drop next) w.stored ∙ drop-sets (encAll outs) before at next (omega (arith, w.place))
+    ap (drop next) w.stored ∙ drop-sets (enc_all outs) before at next (omega (arith, w.place))
 
 -- ---- from the start
 
-pub wrote_count : {k next : ℕ} {outs : List Rec} {before after : List ℕ} → Wrote k outs before 0 after next → next ≡ length (encAll outs)
-wrote_count {outs = outs} w = w.place ∙ zero-add (length (encAll outs))
+pub wrote_count : {k next : ℕ} {outs : List Rec} {before after : List ℕ} → Wrote k outs before 0 after next → next ≡ length (enc_all outs)
+wrote_count {outs = outs} w = w.place ∙ zero-add (length (enc_all outs))
 
 pub wrote-start : {k next : ℕ} {outs : List Rec} {before after : List ℕ} → Wrote k outs before 0 after next → k ≤ length before
-    → after ≡ encAll outs ++ drop (length (encAll outs)) before
+    → after ≡ enc_all outs ++ drop (length (enc_all outs)) before
 wrote-start {outs = outs} {before = before} w h =
-    w.stored ∙ sets-eq (encAll outs) before 0 (omega (arith, w.room, w.place)) ∙ rw zero-add
+    w.stored ∙ sets-eq (enc_all outs) before 0 (omega (arith, w.room, w.place)) ∙ rw zero-add
 
 -- ---- how long
 
 -- records of one length each
-pub length-each : {A : Type 0} (f : A → Rec) (n : ℕ) → ((x : A) → length (enc (f x)) ≡ n) → (xs : List A) → length (encAll (map f xs)) ≡ n * length xs
-unfolding encAll
+pub length-each : {A : Type 0} (f : A → Rec) (n : ℕ) → ((x : A) → length (enc (f x)) ≡ n) → (xs : List A) → length (enc_all (map f xs)) ≡ n * length xs
+unfolding enc_all
 length-each f n h [] = sym (mul-zero n)
 length-each f n h (x ∷ xs) = rw (length-append, h x, length-each f n h xs, mul-suc) (omega arith)

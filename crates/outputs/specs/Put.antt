@@ -5,7 +5,7 @@
 --     Wrote k outs before at after next      these records were stored from `at` on, at most k bytes, and `next` is the place after them
 use Rattle.std.specs.Prelude.{◌≡◌, List, ℕ, ◌+◌, ◌≤◌, length}
 use Rattle.std.proofs.lemmas.List.Edits.{sets}
-use Rattle.outputs.specs.Records.{Rec, encAll}
+use Rattle.outputs.specs.Records.{Rec, enc_all}
 
 pub record Put (before : List ℕ) (at n : ℕ) (bytes after : List ℕ) (next : ℕ) : Type 0 where
   pub place : next ≡ at + n
@@ -17,6 +17,6 @@ pub record PutTo (k : ℕ) (before : List ℕ) (at : ℕ) (bytes after : List �
   pub most : next ≤ at + k
 
 pub record Wrote (k : ℕ) (outs : List Rec) (before : List ℕ) (at : ℕ) (after : List ℕ) (next : ℕ) : Type 0 where
-  pub place : next ≡ at + length (encAll outs)
-  pub stored : after ≡ sets before at (encAll outs)
+  pub place : next ≡ at + length (enc_all outs)
+  pub stored : after ≡ sets before at (enc_all outs)
   pub room : next ≤ at + k

@@ -2,9 +2,9 @@
 // and says what it stored by `Put`.
 ghost use Rattle.std.specs.Prelude.{◌+◌, ◌*◌, ◌≤◌, ◌++◌, ◌≡◌, length};
 ghost use Rattle.std.specs.Int.Count.{ones};
-ghost use Rattle.outputs.specs.Fields.{digits, hashBytes, bytes_of};
+ghost use Rattle.outputs.specs.Fields.{digits, hash_bytes, bytes_of};
 ghost use Rattle.outputs.specs.Put.{Put};
-ghost use Rattle.outputs.specs.Records.{membersMax, qcFields, places_of, entries, tcFields};
+ghost use Rattle.outputs.specs.Records.{members_max, qc_fields, places_of, entries, tc_fields};
 
 use certificates::messages::QC;
 use certificates::numbers::{Hash, Round, Signers};
@@ -53,7 +53,7 @@ pub(crate) fn put_head(out: &mut [u8], at: usize, len: u16, kind: u16) -> usize
 
 pub(crate) fn put_hash(out: &mut [u8], at: usize, h: Hash) -> usize
     requires { at + 32 ≤ length out.old }
-    ensures { Put out.old at 32 (hashBytes h) out.new result }
+    ensures { Put out.old at 32 (hash_bytes h) out.new result }
 {
     let b = put64(out, at, h.a);
     let c = put64(out, b, h.b);
@@ -64,7 +64,7 @@ pub(crate) fn put_hash(out: &mut [u8], at: usize, h: Hash) -> usize
 // A QC as it is written: hash 32, round 8, signer word 8.
 pub(crate) fn put_qc(out: &mut [u8], at: usize, q: QC) -> usize
     requires { at + 48 ≤ length out.old }
-    ensures { Put out.old at 48 (bytes_of (qcFields q)) out.new result }
+    ensures { Put out.old at 48 (bytes_of (qc_fields q)) out.new result }
 {
     let h = q.hash;
     let b = put_hash(out, at, h);
@@ -83,7 +83,7 @@ fn put_entry(out: &mut [u8], at: usize, p: u16, high: u64) -> usize
 
 // The entries of a TC: the set places, the lowest first.
 fn put_entries(out: &mut [u8], at: usize, names: u64, highs: &[u64]) -> usize
-    requires { (length highs.now ≡ membersMax) × (at + 10 * membersMax ≤ length out.old) }
+    requires { (length highs.now ≡ members_max) × (at + 10 * members_max ≤ length out.old) }
     ensures { Put out.old at (10 * ones names) (bytes_of (entries (places_of names) highs.now)) out.new result }
 {
     let mut left = names;
@@ -98,7 +98,7 @@ fn put_entries(out: &mut [u8], at: usize, names: u64, highs: &[u64]) -> usize
 
 // How many names there are: the count of ones.
 pub(crate) fn names_in(names: Signers) -> u16
-    ensures { (result ≡ ones names.0) × (result ≤ membersMax) }
+    ensures { (result ≡ ones names.0) × (result ≤ members_max) }
 {
     u64::count_ones(names.0) as u16
 }
@@ -111,8 +111,8 @@ pub(crate) fn put_tc_body(
     names: Signers,
     highs: &[u64],
 ) -> usize
-    requires { (length highs.now ≡ membersMax) × (at + (10 + 10 * membersMax) ≤ length out.old) }
-    ensures { Put out.old at (10 + 10 * ones names.0) (bytes_of (tcFields round.0 names.0 highs.now)) out.new result }
+    requires { (length highs.now ≡ members_max) × (at + (10 + 10 * members_max) ≤ length out.old) }
+    ensures { Put out.old at (10 + 10 * ones names.0) (bytes_of (tc_fields round.0 names.0 highs.now)) out.new result }
 {
     let n = names_in(names);
     let a = put64(out, at, round.0);

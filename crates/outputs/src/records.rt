@@ -1,8 +1,8 @@
 // The writers of whole records, in the order of 01's table of outputs.
 ghost use Rattle.std.specs.Prelude.{◌+◌, ◌≤◌, ◌≡◌, length};
 ghost use Rattle.outputs.specs.Put.{Put, PutTo};
-ghost use Rattle.outputs.specs.Records.{vote, timeout, tc, make, makeWith, commit, sync, cleanProposer, cleanMempool, timerReset, answer, enc};
-ghost use Rattle.outputs.specs.Records.{membersMax, voteSize, timeoutSize, tcMost, makeSize, makeWithMost, commitSize, syncSize, cleanProposerSize, cleanMempoolSize, timerResetSize, answerSize};
+ghost use Rattle.outputs.specs.Records.{vote, timeout, tc, make, make_with, commit, sync, clean_proposer, clean_mempool, timer_reset, answer, enc};
+ghost use Rattle.outputs.specs.Records.{members_max, vote_size, timeout_size, tc_most, make_size, make_with_most, commit_size, sync_size, clean_proposer_size, clean_mempool_size, timer_reset_size, answer_size};
 
 use crate::put::{names_in, put_hash, put_head, put_qc, put_tc_body, put8, put16, put64};
 use certificates::messages::QC;
@@ -53,8 +53,8 @@ pub const TIMER_RESET_SIZE: usize = 4;
 pub const ANSWER_SIZE: usize = 6;
 
 pub fn put_vote(out: &mut [u8], at: usize, to: Place, hash: Hash, round: Round) -> usize
-    requires { at + voteSize ≤ length out.old }
-    ensures { Put out.old at voteSize (enc (vote to.0 hash round.0)) out.new result }
+    requires { at + vote_size ≤ length out.old }
+    ensures { Put out.old at vote_size (enc (vote to.0 hash round.0)) out.new result }
 {
     let a = put_head(out, at, 44, VOTE);
     let b = put16(out, a, to.0);
@@ -63,8 +63,8 @@ pub fn put_vote(out: &mut [u8], at: usize, to: Place, hash: Hash, round: Round) 
 }
 
 pub fn put_timeout(out: &mut [u8], at: usize, round: Round, high: QC) -> usize
-    requires { at + timeoutSize ≤ length out.old }
-    ensures { Put out.old at timeoutSize (enc (timeout round.0 high)) out.new result }
+    requires { at + timeout_size ≤ length out.old }
+    ensures { Put out.old at timeout_size (enc (timeout round.0 high)) out.new result }
 {
     let a = put_head(out, at, 58, TIMEOUT);
     let b = put64(out, a, round.0);
@@ -73,8 +73,8 @@ pub fn put_timeout(out: &mut [u8], at: usize, round: Round, high: QC) -> usize
 
 // The high rounds are by place.
 pub fn put_tc(out: &mut [u8], at: usize, round: Round, names: Signers, highs: &[u64]) -> usize
-    requires { (length highs.now ≡ membersMax) × (at + tcMost ≤ length out.old) }
-    ensures { PutTo tcMost out.old at (enc (tc round.0 names.0 highs.now)) out.new result }
+    requires { (length highs.now ≡ members_max) × (at + tc_most ≤ length out.old) }
+    ensures { PutTo tc_most out.old at (enc (tc round.0 names.0 highs.now)) out.new result }
 {
     let n = names_in(names);
     let a = put_head(out, at, 12 + 10 * n, TC);
@@ -83,8 +83,8 @@ pub fn put_tc(out: &mut [u8], at: usize, round: Round, names: Signers, highs: &[
 
 // MAKE without a TC.
 pub fn put_make(out: &mut [u8], at: usize, round: Round, high: QC) -> usize
-    requires { at + makeSize ≤ length out.old }
-    ensures { Put out.old at makeSize (enc (make round.0 high)) out.new result }
+    requires { at + make_size ≤ length out.old }
+    ensures { Put out.old at make_size (enc (make round.0 high)) out.new result }
 {
     let a = put_head(out, at, 59, MAKE);
     let b = put64(out, a, round.0);
@@ -102,8 +102,8 @@ pub fn put_make_with(
     names: Signers,
     highs: &[u64],
 ) -> usize
-    requires { (length highs.now ≡ membersMax) × (at + makeWithMost ≤ length out.old) }
-    ensures { PutTo makeWithMost out.old at (enc (makeWith round.0 high of.0 names.0 highs.now)) out.new result }
+    requires { (length highs.now ≡ members_max) × (at + make_with_most ≤ length out.old) }
+    ensures { PutTo make_with_most out.old at (enc (make_with round.0 high of.0 names.0 highs.now)) out.new result }
 {
     let n = names_in(names);
     let a = put_head(out, at, 69 + 10 * n, MAKE);
@@ -114,8 +114,8 @@ pub fn put_make_with(
 }
 
 pub fn put_commit(out: &mut [u8], at: usize, digest: Hash, round: Round) -> usize
-    requires { at + commitSize ≤ length out.old }
-    ensures { Put out.old at commitSize (enc (commit digest round.0)) out.new result }
+    requires { at + commit_size ≤ length out.old }
+    ensures { Put out.old at commit_size (enc (commit digest round.0)) out.new result }
 {
     let a = put_head(out, at, 42, COMMIT);
     let b = put_hash(out, a, digest);
@@ -123,8 +123,8 @@ pub fn put_commit(out: &mut [u8], at: usize, digest: Hash, round: Round) -> usiz
 }
 
 pub fn put_sync(out: &mut [u8], at: usize, parent: Hash, block: Hash, author: Place) -> usize
-    requires { at + syncSize ≤ length out.old }
-    ensures { Put out.old at syncSize (enc (sync parent block author.0)) out.new result }
+    requires { at + sync_size ≤ length out.old }
+    ensures { Put out.old at sync_size (enc (sync parent block author.0)) out.new result }
 {
     let a = put_head(out, at, 68, SYNC);
     let b = put_hash(out, a, parent);
@@ -134,8 +134,8 @@ pub fn put_sync(out: &mut [u8], at: usize, parent: Hash, block: Hash, author: Pl
 
 // b0 and b1 are the block's grandparent and parent; genesis is zeros.
 pub fn put_clean_proposer(out: &mut [u8], at: usize, b0: Hash, b1: Hash, block: Hash) -> usize
-    requires { at + cleanProposerSize ≤ length out.old }
-    ensures { Put out.old at cleanProposerSize (enc (cleanProposer b0 b1 block)) out.new result }
+    requires { at + clean_proposer_size ≤ length out.old }
+    ensures { Put out.old at clean_proposer_size (enc (clean_proposer b0 b1 block)) out.new result }
 {
     let a = put_head(out, at, 98, CLEAN_PROPOSER);
     let b = put_hash(out, a, b0);
@@ -144,23 +144,23 @@ pub fn put_clean_proposer(out: &mut [u8], at: usize, b0: Hash, b1: Hash, block: 
 }
 
 pub fn put_clean_mempool(out: &mut [u8], at: usize, round: Round) -> usize
-    requires { at + cleanMempoolSize ≤ length out.old }
-    ensures { Put out.old at cleanMempoolSize (enc (cleanMempool round.0)) out.new result }
+    requires { at + clean_mempool_size ≤ length out.old }
+    ensures { Put out.old at clean_mempool_size (enc (clean_mempool round.0)) out.new result }
 {
     let a = put_head(out, at, 10, CLEAN_MEMPOOL);
     put64(out, a, round.0)
 }
 
 pub fn put_timer_reset(out: &mut [u8], at: usize) -> usize
-    requires { at + timerResetSize ≤ length out.old }
-    ensures { Put out.old at timerResetSize (enc timerReset) out.new result }
+    requires { at + timer_reset_size ≤ length out.old }
+    ensures { Put out.old at timer_reset_size (enc timer_reset) out.new result }
 {
     put_head(out, at, 2, 0x0109)
 }
 
 pub fn put_answer(out: &mut [u8], at: usize, number: u16) -> usize
-    requires { at + answerSize ≤ length out.old }
-    ensures { Put out.old at answerSize (enc (answer number)) out.new result }
+    requires { at + answer_size ≤ length out.old }
+    ensures { Put out.old at answer_size (enc (answer number)) out.new result }
 {
     let a = put_head(out, at, 4, ANSWER);
     put16(out, a, number)

@@ -9,28 +9,28 @@ use Rattle.trace.specs.Fields.{block_of}
 use Rattle.synchronizer.specs.declared.table.Slot.{Slot}
 use Rattle.synchronizer.specs.declared.settle.Work.{Work}
 use Rattle.synchronizer.specs.declared.settle.Settled.{Settled}
-use Rattle.synchronizer.specs.Settle.{settled_of, settleMost, RoomFor, Settles}
+use Rattle.synchronizer.specs.Settle.{settled_of, settle_most, RoomFor, Settles}
 use Rattle.replica.specs.Started.{room_for}
 use Rattle.replica.specs.Step.{laid, stepped}
-use Rattle.replica.specs.Stages.{workAt}
+use Rattle.replica.specs.Stages.{work_at}
 use Rattle.replica.proofs.StepLaws.{settle-room, finish-needs, step_room, step_left}
 use Rattle.owned.specs.declared.record.Replica.{Replica}
 use Rattle.owned.specs.declared.record.Handed.{Handed}
 use Rattle.owned.specs.declared.stages.Opened.{Opened}
-use Rattle.owned.specs.Record.{worldOf, handedLeft}
+use Rattle.owned.specs.Record.{world_of, handed_left}
 use Rattle.owned.specs.Stages.{Opens, Closable, Closes}
 
 module _ (r : Replica) (table : List Slot) (out input : List ℕ) (slots : ℕ) (n : slots ≡ length table) {o : Opened} {out₁ : List ℕ} (p : Opens r slots input out o out₁)
-    {w : Work} (ask : w ≡ workAt o.begun (block_of input)) where
+    {w : Work} (ask : w ≡ work_at o.begun (block_of input)) where
   pub ask-room : RoomFor w (length table) (length out₁)
   ask-room = settle-room r.seat r.stakes r.core r.votes r.timeouts table out input slots n p ask
 
-  module _ {s : Settled} {table' : List Slot} {out₂ : List ℕ} (q : Settles (settled_of table w) (settleMost (length table)) out₁ w.at s table' out₂) where
+  module _ {s : Settled} {table' : List Slot} {out₂ : List ℕ} (q : Settles (settled_of table w) (settle_most (length table)) out₁ w.at s table' out₂) where
     pub close-needs : Closable o s input (length out₂)
     close-needs = finish-needs r.seat r.stakes r.core r.votes r.timeouts table out input slots n p ask q
 
     module _ {h : Handed} {out₃ : List ℕ} (f : Closes o s input out₂ h out₃) where
-      pub handed-left : handedLeft h table' out₃ ≡ laid (stepped (worldOf r table) (length out) input) out
+      pub handed-left : handed_left h table' out₃ ≡ laid (stepped (world_of r table) (length out) input) out
       handed-left = rw f.held (step_left r.seat r.stakes r.core r.votes r.timeouts table out input slots n p ask q f.done)
 
       pub handed-room : h.written ≤ room_for (length table)

@@ -9,15 +9,15 @@ use lib.ListN.{length}
 use Rattle.certificates.specs.declared.config.Setup.{Setup}
 use Rattle.synchronizer.specs.declared.table.Slot.{Slot}
 use Rattle.replica.specs.declared.stages.Stepped.{Stepped}
-use Rattle.replica.specs.Started.{shaped, startedOf}
-use Rattle.replica.specs.Step.{Left, laid, leftBy, started, stepped, world}
+use Rattle.replica.specs.Started.{shaped, started_of}
+use Rattle.replica.specs.Step.{Left, laid, left_by, started, stepped, world}
 use Rattle.owned.specs.declared.record.Replica.{Replica}
 use Rattle.owned.specs.declared.record.Handed.{Handed}
-use Rattle.owned.specs.Record.{worldOf, handedLeft, noReplica}
+use Rattle.owned.specs.Record.{world_of, handed_left, no_replica}
 
 -- the record and the answer in what is left
-abbrev handedOf : Left → Handed
-handedOf l =
+abbrev handed_of : Left → Handed
+handed_of l =
     record {
       answer = l.answer;
       written = l.written;
@@ -31,19 +31,19 @@ handedOf l =
     }
 
 module _ (r : Replica) (table : List Slot) (out input : List ℕ) {h : Handed} {table' : List Slot} {out' : List ℕ}
-    (p : handedLeft h table' out' ≡ laid (stepped (worldOf r table) (length out) input) out) where
+    (p : handed_left h table' out' ≡ laid (stepped (world_of r table) (length out) input) out) where
   -- beside what `replica::step::step` ensures of the parts of r
   pub same-as-lent : {x : Stepped} {stakes votes timeouts : List ℕ} {table'' : List Slot} {out'' : List ℕ}
-      → leftBy x stakes votes timeouts table'' out'' ≡ laid (stepped (world r.seat r.stakes r.core r.votes r.timeouts table) (length out) input) out
-      → handedLeft h table' out' ≡ leftBy x stakes votes timeouts table'' out''
+      → left_by x stakes votes timeouts table'' out'' ≡ laid (stepped (world r.seat r.stakes r.core r.votes r.timeouts table) (length out) input) out
+      → handed_left h table' out' ≡ left_by x stakes votes timeouts table'' out''
   same-as-lent q = p ∙ sym q
 
-  pub handed-unique : {k : Handed} {table'' : List Slot} {out'' : List ℕ} → handedLeft k table'' out'' ≡ laid (stepped (worldOf r table) (length out) input) out
+  pub handed-unique : {k : Handed} {table'' : List Slot} {out'' : List ℕ} → handed_left k table'' out'' ≡ laid (stepped (world_of r table) (length out) input) out
       → (h ≡ k) × (table' ≡ table'') × (out' ≡ out'')
   handed-unique q =
-      let e : handedLeft h table' out' ≡ handedLeft _ _ _ = p ∙ sym q in
-      (ap handedOf e, ap (λ (l : Left). l.world.table) e, ap (λ (l : Left). l.out) e)
+      let e : handed_left h table' out' ≡ handed_left _ _ _ = p ∙ sym q in
+      (ap handed_of e, ap (λ (l : Left). l.world.table) e, ap (λ (l : Left). l.out) e)
 
-pub none-started : (table : List Slot) → started (worldOf noReplica table) ≡ Setup.Bad
-unfolding startedOf shaped
+pub none-started : (table : List Slot) → started (world_of no_replica table) ≡ Setup.Bad
+unfolding started_of shaped
 none-started table = refl

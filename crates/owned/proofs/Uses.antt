@@ -27,7 +27,7 @@ use Rattle.synchronizer.specs.declared.settle.Work.{Work}
 use Rattle.synchronizer.specs.declared.settle.Settled.{Settled}
 use Rattle.synchronizer.proofs.Lent.{Gives, AsShr, AsMut, at_name, use-one, use-two}
 use Rattle.synchronizer.proofs.Row.{work, settled, settled-makes}
-use Rattle.replica.specs.Stages.{workAt}
+use Rattle.replica.specs.Stages.{work_at}
 use Rattle.owned.specs.declared.record.Replica.{Replica}
 use Rattle.owned.specs.declared.record.Handed.{Handed}
 use Rattle.owned.specs.declared.stages.Opened.{Opened}
@@ -65,9 +65,9 @@ module _ {M : Type 1} {𝓤 : Ura M} (𝓛 : Logic 𝓤) (mem : Memory → SProp
         (λ p p'. known (((L.lft p, (L'.lft p', tt)), (L.share p, (L'.share p', tt)), tt, (at_name u8 b o (L.name p) zs, (at_name u8 b' o' (L'.name p') xs, (r, (n, tt)))), (slice_val (b, o) m ∷ [], (slice_val (b', o') m' ∷ [], (r-val ∷ [], (n-val ∷ [], tt))))), tt))
 
     pub ask-use : Triple 𝓤 (𝓣.C #owned·stages·ask) AskMet → (b o m : ℕ) (xs : List ℕ) {e : Item 𝓤} → AsShr 𝓛 u8 b o m xs e → (g : Opened) (g-val : Val) → Is opened g (g-val ∷ [])
-        → Gives 𝓛 𝓣.C #owned·stages·ask (slice_val (b, o) m ∷ g-val ∷ []) e (λ z (x : Work × Unit {0}). (x.0 ≡ workAt g.begun (block_of xs)) × (Unit {0} × Is work x.0 (z ∷ []))) (λ _. e)
+        → Gives 𝓛 𝓣.C #owned·stages·ask (slice_val (b, o) m ∷ g-val ∷ []) e (λ z (x : Work × Unit {0}). (x.0 ≡ work_at g.begun (block_of xs)) × (Unit {0} × Is work x.0 (z ∷ []))) (λ _. e)
     ask-use known b o m xs L g g-val g-is =
-        use-one 𝓛 fm #owned·stages·ask (slice_val (b, o) m ∷ g-val ∷ []) (opened ∷ []) (opened-makes 𝓛, tt) (g, tt) (g-val ∷ [], tt) (g-is, tt) work (emp 𝓤) (id⊢ 𝓤 (emp 𝓤)) L 1 (λ w _. w ≡ workAt g.begun (block_of xs))
+        use-one 𝓛 fm #owned·stages·ask (slice_val (b, o) m ∷ g-val ∷ []) (opened ∷ []) (opened-makes 𝓛, tt) (g, tt) (g-val ∷ [], tt) (g-is, tt) work (emp 𝓤) (id⊢ 𝓤 (emp 𝓤)) L 1 (λ w _. w ≡ work_at g.begun (block_of xs))
         (λ p. known (((L.lft p, tt), (L.share p, tt), tt, (at_name u8 b o (L.name p) xs, (g, tt)), (slice_val (b, o) m ∷ [], (g-val ∷ [], tt))), tt))
 
     pub close-use : Triple 𝓤 (𝓣.C #owned·stages·close) CloseMet → (b o m : ℕ) (zs : List ℕ) {e : Item 𝓤} {after : List ℕ → Item 𝓤} → AsMut 𝓛 u8 b o m zs e after → (b' o' m' : ℕ) (xs : List ℕ) {e' : Item 𝓤} → AsShr 𝓛 u8 b' o' m' xs e'

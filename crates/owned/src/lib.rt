@@ -3,6 +3,8 @@
 //
 // `record` has the record. `stages` lends its parts to the functions of crate `replica`, which work
 // on them in place, and puts them back. `step` is the public entry: one event, from any record.
+#![tactic(auto)]
+
 pub mod record;
 mod stages;
 pub mod step;

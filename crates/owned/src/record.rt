@@ -1,7 +1,7 @@
 // The record of a replica: all that it knows but for the table of blocks. The tallies have fixed
 // room: 32 of votes and 16 of timeouts, each a row of numbers.
 ghost use Rattle.std.specs.Prelude.{◌≡◌};
-ghost use Rattle.owned.specs.Record.{noReplica};
+ghost use Rattle.owned.specs.Record.{no_replica};
 
 use aggregator::tallies::{TIMEOUT_TALLIES, TIMEOUT_WIDTH, VOTE_TALLIES, VOTE_WIDTH};
 use certificates::config::MEMBERS_MAX;
@@ -10,7 +10,7 @@ use certificates::numbers::{Hash, Place, Round, Signers};
 use moves::state::Core;
 use replica::started::Seat;
 
-#[derive(Drop)]
+#[derive(Clone, Copy)]
 pub struct Replica {
     pub seat: Seat,
     pub core: Core,
@@ -20,7 +20,7 @@ pub struct Replica {
 }
 
 // What an event leaves: the answer, how many bytes were written, and the record.
-#[derive(Drop)]
+#[derive(Clone, Copy)]
 pub struct Handed {
     pub answer: u16,
     pub written: usize,
@@ -29,7 +29,7 @@ pub struct Handed {
 
 // A record of zeros, which counts as not started: what a host hands in with START.
 pub fn empty() -> Replica
-    ensures { result ≡ noReplica }
+    ensures { result ≡ no_replica }
 {
     let hash = Hash {
         a: 0,

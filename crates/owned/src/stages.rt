@@ -2,7 +2,7 @@
 // put back.
 ghost use Rattle.std.specs.Prelude.{◌≡◌, length};
 ghost use Rattle.trace.specs.Fields.{block_of};
-ghost use Rattle.replica.specs.Stages.{workAt};
+ghost use Rattle.replica.specs.Stages.{work_at};
 ghost use Rattle.owned.specs.Stages.{Opens, Closable, Closes};
 
 use crate::record::{Handed, Replica};
@@ -12,7 +12,7 @@ use replica::stages::{Begun, begin, finish, work_of};
 use synchronizer::settle::{Settled, Work};
 
 // What the first part leaves.
-#[derive(Drop)]
+#[derive(Clone, Copy)]
 pub(crate) struct Opened {
     pub begun: Begun,
     pub stakes: [u32; MEMBERS_MAX],
@@ -47,7 +47,7 @@ pub(crate) fn open(out: &mut [u8], input: &[u8], r: Replica, slots: usize) -> Op
 
 // What the table is asked for.
 pub(crate) fn ask(input: &[u8], o: Opened) -> Work
-    ensures { result ≡ workAt o.begun (block_of input.now) }
+    ensures { result ≡ work_at o.begun (block_of input.now) }
 {
     let begun = o.begun;
     work_of(input, begun)

@@ -13,19 +13,19 @@ use native.Mathlib.Nat.{le_refl}
 use native.Mathlib.Omega.{arith}
 use lib.ListN.{length, take, drop, length-drop, drop_of_length-le}
 use lib.Seq.{drop-drop}
-use Rattle.trace.specs.Record.{splitOf, rest_of}
+use Rattle.trace.specs.Record.{split_of, rest_of}
 use Rattle.trace.specs.declared.record.Front.{Front}
 use Rattle.trace.specs.declared.record.Front.TheVariants.{End, Cut, Small, Record}
 use Rattle.trace.proofs.Parts.{drop-take}
 use Rattle.trace.proofs.FrontLaws.{front-bounds}
-use Rattle.reader.specs.Place.{frontAt, behind, next_at, frontIn}
+use Rattle.reader.specs.Place.{front_at, behind, next_at, front_in}
 
 -- ---- the ways out
 
-pub front-here : (s : List ℕ) (at : ℕ) {d : List ℕ} {f : Front} → d ≡ drop at s → f ≡ splitOf d → f ≡ frontAt s at
+pub front-here : (s : List ℕ) (at : ℕ) {d : List ℕ} {f : Front} → d ≡ drop at s → f ≡ split_of d → f ≡ front_at s at
 front-here s at p e = rw (← p) e
 
-module _ (s : List ℕ) (at : ℕ) {f : Front} (e : f ≡ frontAt s at) where
+module _ (s : List ℕ) (at : ℕ) {f : Front} (e : f ≡ front_at s at) where
   pub next-ends : f ≡ End → length s ≡ next_at s at
   next-ends q = rw (← e, q)
 
@@ -51,19 +51,19 @@ module _ (s : List ℕ) (at : ℕ) {f : Front} (e : f ≡ frontAt s at) where
         let b = front-bounds (drop at s) (Record kind end) (sym q ∙ e) in
         omega (arith, b, l)
 
-pub front-part : (s : List ℕ) (at have : ℕ) {t : List ℕ} {f : Front} → t ≡ take have s → f ≡ frontAt t at → f ≡ frontIn s at have
+pub front-part : (s : List ℕ) (at have : ℕ) {t : List ℕ} {f : Front} → t ≡ take have s → f ≡ front_at t at → f ≡ front_in s at have
 front-part s at have p e = rw (p, drop-take at have s) at e
 
 -- ---- what callers need
 
-by_front : (s : List ℕ) (at : ℕ) (f : Front) → f ≡ frontAt s at → behind f at (length s) ≤ length s
-by_front s at End e = le_refl (length s)
-by_front s at Cut e = le_refl (length s)
-by_front s at (Small end) e = small-fits s at e refl
-by_front s at (Record kind end) e = record-fits s at e refl
+by_front_lem : (s : List ℕ) (at : ℕ) (f : Front) → f ≡ front_at s at → behind f at (length s) ≤ length s
+by_front_lem s at End e = le_refl (length s)
+by_front_lem s at Cut e = le_refl (length s)
+by_front_lem s at (Small end) e = small-fits s at e refl
+by_front_lem s at (Record kind end) e = record-fits s at e refl
 
 pub next_fits : (s : List ℕ) (at : ℕ) → next_at s at ≤ length s
-next_fits s at = by_front s at (frontAt s at) refl
+next_fits s at = by_front_lem s at (front_at s at) refl
 
 rest-by : (s : List ℕ) (at : ℕ) (f : Front) → drop (behind f at (length s)) s ≡ rest_of f (drop at s)
 rest-by s at End = drop_of_length-le s (le_refl (length s))
@@ -72,5 +72,5 @@ rest-by s at (Small end) = sym (drop-drop end at s)
 rest-by s at (Record kind end) = sym (drop-drop end at s)
 
 -- 01: "Taking one record off hands back the unread rest of the caller's buffer."
-pub next-rest : (s : List ℕ) (at : ℕ) → drop (next_at s at) s ≡ rest_of (frontAt s at) (drop at s)
-next-rest s at = rest-by s at (frontAt s at)
+pub next-rest : (s : List ℕ) (at : ℕ) → drop (next_at s at) s ≡ rest_of (front_at s at) (drop at s)
+next-rest s at = rest-by s at (front_at s at)

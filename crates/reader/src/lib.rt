@@ -3,5 +3,7 @@
 // `place` has the work, on a slice and a number. `reader` has the struct and thin functions over it,
 // each of which takes it apart and calls `place`. Callers that have a buffer and numbers use
 // `reader::front_from`. No function has a `requires`.
+#![tactic(auto)]
+
 pub mod place;
 pub mod reader;

@@ -1,13 +1,13 @@
 // What stands at a place of a trace, and where the next record starts.
 ghost use Rattle.std.specs.Prelude.{◌≡◌};
-ghost use Rattle.reader.specs.Place.{frontAt, next_at, leftAt};
+ghost use Rattle.reader.specs.Place.{front_at, next_at, left_at};
 
 use trace::part::after;
 use trace::record::{Front, split};
 
 // What stands at a place: nothing past the end.
 pub fn front_at(src: &[u8], at: usize) -> Front
-    ensures { result ≡ frontAt src.now at }
+    ensures { result ≡ front_at src.now at }
 {
     split(after(src, at))
 }
@@ -26,7 +26,7 @@ pub fn next_at(src: &[u8], at: usize) -> usize
 
 // How many bytes are left from a place on: none past the end.
 pub fn left_at(src: &[u8], at: usize) -> usize
-    ensures { result ≡ leftAt src.now at }
+    ensures { result ≡ left_at src.now at }
 {
     if at < src.len() { src.len() - at } else { 0 }
 }

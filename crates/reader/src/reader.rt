@@ -1,13 +1,13 @@
 // A reader holds the trace bytes and its place in them. The borrow checker covers no function over
 // such a struct: each is thin, and is proved by hand.
 ghost use Rattle.std.specs.Prelude.{◌≡◌};
-ghost use Rattle.reader.specs.Place.{frontAt, next_at, leftAt, frontIn};
+ghost use Rattle.reader.specs.Place.{front_at, next_at, left_at, front_in};
 
 use crate::place::{front_at, left_at, next_at};
 use trace::part::first;
 use trace::record::Front;
 
-#[derive(Drop)]
+#[derive(Clone, Copy)]
 pub struct Reader<'a> {
     pub src: &'a [u8],
     // The next record starts here.
@@ -22,7 +22,7 @@ pub fn new<'a>(src: &'a [u8], at: usize) -> Reader<'a>
 
 // What stands at its place.
 pub fn front<'a>(r: Reader<'a>) -> Front
-    ensures { result ≡ frontAt r.entry.src.now r.entry.at }
+    ensures { result ≡ front_at r.entry.src.now r.entry.at }
 {
     front_at(r.src, r.at)
 }
@@ -39,14 +39,14 @@ pub fn taken<'a>(r: Reader<'a>) -> Reader<'a>
 
 // How many bytes it has left.
 pub fn left<'a>(r: Reader<'a>) -> usize
-    ensures { result ≡ leftAt r.entry.src.now r.entry.at }
+    ensures { result ≡ left_at r.entry.src.now r.entry.at }
 {
     left_at(r.src, r.at)
 }
 
 // What stands at a place, by a reader made there.
 pub fn front_of(src: &[u8], at: usize) -> Front
-    ensures { result ≡ frontAt src.now at }
+    ensures { result ≡ front_at src.now at }
 {
     front(new(src, at))
 }
@@ -54,7 +54,7 @@ pub fn front_of(src: &[u8], at: usize) -> Front
 // What stands at a place of a buffer of which the first have bytes were read: of all of it where it
 // has fewer.
 pub fn front_from(src: &[u8], at: usize, have: usize) -> Front
-    ensures { result ≡ frontIn src.now at have }
+    ensures { result ≡ front_in src.now at have }
 {
     front_of(first(src, have), at)
 }

@@ -9,11 +9,11 @@ use native.Mathlib.Omega.{arith}
 use borrow.Author.Tests.{eqb-true, eqb-false}
 use lib.Dec.{ltb, eqb, lit≤}
 use lib.ListN.{length, length-append, drop}
-use Rattle.certificates.specs.Error.{waitParent}
-use Rattle.certificates.specs.Config.{quorumOf, stakeOf}
-use Rattle.certificates.specs.Start.{setupAt}
-use Rattle.certificates.specs.Leader.{leaderOf}
-use Rattle.certificates.specs.Messages.{embeddedCheck, tcCheck, authorCheck}
+use Rattle.certificates.specs.Error.{wait_parent}
+use Rattle.certificates.specs.Config.{quorum_of, stake_of}
+use Rattle.certificates.specs.Start.{setup_at}
+use Rattle.certificates.specs.Leader.{leader_of}
+use Rattle.certificates.specs.Messages.{embedded_check, tc_check, author_check}
 use Rattle.certificates.specs.Error as error
 use Rattle.certificates.specs.declared.config.Setup.{Setup}
 use Rattle.certificates.specs.declared.config.Setup.TheVariants.{Bad, Total}
@@ -22,44 +22,44 @@ use Rattle.certificates.specs.declared.numbers.Signers.{Signers}
 use Rattle.certificates.specs.declared.messages.QC.{QC}
 use Rattle.certificates.specs.declared.messages.Checked.{Checked}
 use Rattle.trace.specs.Form.{form_of}
-use Rattle.trace.specs.Limits.{limitOf}
-use Rattle.trace.specs.Fields.{voteOf, timeoutOf, block_of}
-use Rattle.certificates.specs.Numbers.{roundMax}
-use Rattle.trace.specs.Layout.{timeoutQC, tcBody, tcRound, qcPart, tcPart, blockQC, payloadOf}
+use Rattle.trace.specs.Limits.{limit_of}
+use Rattle.trace.specs.Fields.{vote_of, timeout_of, block_of}
+use Rattle.certificates.specs.Numbers.{round_max}
+use Rattle.trace.specs.Layout.{timeout_qc, tc_body, tc_round, qc_part, tc_part, block_qc, payload_of}
 use Rattle.trace.specs.declared.events.Kind.{Kind}
 use Rattle.trace.specs.declared.events.Block.{Block}
 use Rattle.trace.specs.declared.events.Vote.{Vote}
 use Rattle.trace.specs.declared.events.Timeout.{Timeout}
-use Rattle.outputs.specs.Records.{Rec, vote, timeout, tc, make, makeWith, sync, cleanProposer, cleanMempool, timerReset, encAll, size_of, tcMost, makeWithMost, commitSize}
+use Rattle.outputs.specs.Records.{Rec, vote, timeout, tc, make, make_with, sync, clean_proposer, clean_mempool, timer_reset, enc_all, size_of, tc_most, make_with_most, commit_size}
 use Rattle.outputs.proofs.Wrote.{all_none, all_one, all_append, length-each}
 use Rattle.outputs.proofs.Sizes.{length-enc, size-most}
-use Rattle.aggregator.specs.Tallies.{voteAdded, votesAfter, timeoutAdded, timeoutsAfter}
+use Rattle.aggregator.specs.Tallies.{vote_added, votes_after, timeout_added, timeouts_after}
 use Rattle.aggregator.specs.declared.tallies.Added.{Added}
 use Rattle.aggregator.specs.declared.tallies.Added.TheVariants.{NoRoom, Used, More, Full}
 use Rattle.moves.specs.declared.state.Core.{Core}
 use Rattle.moves.specs.State.{State}
-use Rattle.moves.specs.Moves.{advanced, takenQC, leads, makeOf, makeWithOf, certified, tcOuts, timedOut, advanceMost, certifyMost, tcOutsMost, timeOutMost}
-use Rattle.moves.specs.Tallied.{afterVote, afterTimeout, voteTallied, timeoutTallied}
-use Rattle.handlers.specs.Sound.{first, signersOf}
-use Rattle.handlers.specs.Votes.{voteCheck, mayVote, handledVote, ownVote, voted, voting, votingMost}
-use Rattle.handlers.specs.Timeouts.{timeoutCheck, staleIf, timeoutTaken, timeoutWith, handledTimeout, tcTaken, tcWith, handledTC, ownTimeout, handledTick, handleTimeoutMost, handleTCMost, localTimeoutMost}
-use Rattle.handlers.specs.Proposals.{Proposal, proposalCheck, advancedTC, taken, byPayload, proposalWith, proposalOf, takenMost}
+use Rattle.moves.specs.Moves.{advanced, taken_qc, leads, make_of, make_with_of, certified, tc_outs, timed_out, advance_most, certify_most, tc_outs_most, time_out_most}
+use Rattle.moves.specs.Tallied.{after_vote, after_timeout, vote_tallied, timeout_tallied}
+use Rattle.handlers.specs.Sound.{first, signers_of}
+use Rattle.handlers.specs.Votes.{vote_check, may_vote, handled_vote, own_vote, voted, voting, voting_most}
+use Rattle.handlers.specs.Timeouts.{timeout_check, stale_if, timeout_taken, timeout_with, handled_timeout, tc_taken, tc_with, handled_tc, own_timeout, handled_tick, handle_timeout_most, handle_tc_most, local_timeout_most}
+use Rattle.handlers.specs.Proposals.{Proposal, proposal_check, advanced_tc, taken, by_payload, proposal_with, proposal_of, taken_most}
 use Rattle.synchronizer.specs.declared.table.Slot.{Slot}
 use Rattle.synchronizer.specs.declared.settle.Work.{Work}
-use Rattle.synchronizer.specs.Table.{place_of, ancestorsOf}
+use Rattle.synchronizer.specs.Table.{place_of, ancestors_of}
 use Rattle.synchronizer.specs.Settle as settle
-use Rattle.synchronizer.specs.Settle.{isTwoChain, cleanOf, commitIf, commitRec, linkedOf, waitOf, asking, processedBy, processedOf, settled_of, cleanMost, settleMost}
+use Rattle.synchronizer.specs.Settle.{is_two_chain, clean_of, commit_if, commit_rec, linked_of, wait_of, asking, processed_by, processed_of, settled_of, clean_most, settle_most}
 use Rattle.synchronizer.proofs.Lent.{by_cases}
 use Rattle.synchronizer.proofs.TableLaws.{cleared-length}
 use Rattle.synchronizer.proofs.SettleLaws.{commits-fit, processed-waits, wait-none, settled-length, settled-silent, settled-block}
 use Rattle.replica.specs.Started.{room_for, roomy}
-use Rattle.replica.specs.Blocks.{settledFor, afterSettled, processed, processedTable, goingOn, goingOnTable}
-use Rattle.replica.specs.Step.{World, announced, begunBy, begun, committee, handled, started, sizedIn, onStart, onOther, onKind, stepped, announcedMost}
+use Rattle.replica.specs.Blocks.{settled_for, after_settled, processed, processed_table, going_on, going_on_table}
+use Rattle.replica.specs.Step.{World, announced, begun_by, begun, committee, handled, started, sized_in, on_start, on_other, on_kind, stepped, announced_most}
 
 -- ---- lists of records
 
 abbrev pub size : List Rec → ℕ
-size rs = length (encAll rs)
+size rs = length (enc_all rs)
 
 size_none : (k : ℕ) → size [] ≤ k
 size_none k = rw all_none (omega arith)
@@ -73,221 +73,221 @@ size-both xs ys a b p q = rw (all_append xs ys, length-append) (omega arith)
 size_less : (xs : List Rec) (a b : ℕ) → a ≤ b → size xs ≤ a → size xs ≤ b
 size_less xs a b p q = omega arith
 
-tc-most : (round names : ℕ) (highs : List ℕ) → size_of (tc round names highs) ≤ tcMost
-tc-most round names highs = let h = size-most (makeWith round (record { hash = record { a = 0; b = 0; c = 0; d = 0 }; round = record { 0 = 0 }; signers = record { 0 = 0 } }) round names highs) in omega arith
+tc-most : (round names : ℕ) (highs : List ℕ) → size_of (tc round names highs) ≤ tc_most
+tc-most round names highs = let h = size-most (make_with round (record { hash = record { a = 0; b = 0; c = 0; d = 0 }; round = record { 0 = 0 }; signers = record { 0 = 0 } }) round names highs) in omega arith
 
 -- ---- moves
 
-advanced-size : (s : State) (r : ℕ) → size (advanced s r).outs ≤ advanceMost
+advanced-size : (s : State) (r : ℕ) → size (advanced s r).outs ≤ advance_most
 unfolding advanced
-advanced-size s r = by_cases (ltb r s.core.round.0) (λ e. rw e (size_none advanceMost)) (λ e. rw e (size-one timerReset advanceMost (lit≤ tt)))
+advanced-size s r = by_cases (ltb r s.core.round.0) (λ e. rw e (size_none advance_most)) (λ e. rw e (size-one timer_reset advance_most (lit≤ tt)))
 
-takenQC-size : (s : State) (q : QC) → size (takenQC s q).outs ≤ advanceMost
-unfolding takenQC
-takenQC-size s q = size-both (advanced s q.round.0).outs [] advanceMost 0 (advanced-size s q.round.0) (size_none 0)
+taken_qc-size : (s : State) (q : QC) → size (taken_qc s q).outs ≤ advance_most
+unfolding taken_qc
+taken_qc-size s q = size-both (advanced s q.round.0).outs [] advance_most 0 (advanced-size s q.round.0) (size_none 0)
 
 module _ (m : List ℕ) (own : ℕ) where
-  make-size : (c : Core) → size (makeOf m own c) ≤ 61
-  unfolding makeOf
+  make-size : (c : Core) → size (make_of m own c) ≤ 61
+  unfolding make_of
   make-size c = by_cases (leads m own c) (λ e. rw e (size-one (make c.round.0 c.high_qc) 61 (lit≤ tt))) (λ e. rw e (size_none 61))
 
-  make-with-size : (c : Core) (of names : ℕ) (highs : List ℕ) → size (makeWithOf m own c of names highs) ≤ makeWithMost
-  unfolding makeWithOf
+  make-with-size : (c : Core) (of names : ℕ) (highs : List ℕ) → size (make_with_of m own c of names highs) ≤ make_with_most
+  unfolding make_with_of
   make-with-size c of names highs =
       by_cases (leads m own c)
-      (λ e. rw e (size-one (makeWith c.round.0 c.high_qc of names highs) makeWithMost (size-most (makeWith c.round.0 c.high_qc of names highs))))
-      (λ e. rw e (size_none makeWithMost))
+      (λ e. rw e (size-one (make_with c.round.0 c.high_qc of names highs) make_with_most (size-most (make_with c.round.0 c.high_qc of names highs))))
+      (λ e. rw e (size_none make_with_most))
 
-  certified-size : (s : State) (q : QC) → size (certified m own s q).outs ≤ certifyMost
+  certified-size : (s : State) (q : QC) → size (certified m own s q).outs ≤ certify_most
   unfolding certified
-  certified-size s q = size-both (takenQC s q).outs (makeOf m own (takenQC s q).state.core) advanceMost 61 (takenQC-size s q) (make-size (takenQC s q).state.core)
+  certified-size s q = size-both (taken_qc s q).outs (make_of m own (taken_qc s q).state.core) advance_most 61 (taken_qc-size s q) (make-size (taken_qc s q).state.core)
 
-  tc-outs-size : (c : Core) (round names : ℕ) (highs : List ℕ) → size (tcOuts m own c round names highs) ≤ tcOutsMost
-  unfolding tcOuts
+  tc-outs-size : (c : Core) (round names : ℕ) (highs : List ℕ) → size (tc_outs m own c round names highs) ≤ tc_outs_most
+  unfolding tc_outs
   tc-outs-size c round names highs =
-      size-both (tc round names highs ∷ []) (makeWithOf m own c round names highs) tcMost makeWithMost (size-one (tc round names highs) tcMost (tc-most round names highs)) (make-with-size c round names highs)
+      size-both (tc round names highs ∷ []) (make_with_of m own c round names highs) tc_most make_with_most (size-one (tc round names highs) tc_most (tc-most round names highs)) (make-with-size c round names highs)
 
-  timed-out-size : (s : State) (round names : ℕ) (highs : List ℕ) → size (timedOut m own s round names highs).outs ≤ timeOutMost
-  unfolding timedOut
+  timed-out-size : (s : State) (round names : ℕ) (highs : List ℕ) → size (timed_out m own s round names highs).outs ≤ time_out_most
+  unfolding timed_out
   timed-out-size s round names highs =
-      size-both (advanced s round).outs (tcOuts m own (advanced s round).state.core round names highs) advanceMost tcOutsMost (advanced-size s round)
+      size-both (advanced s round).outs (tc_outs m own (advanced s round).state.core round names highs) advance_most tc_outs_most (advanced-size s round)
       (tc-outs-size (advanced s round).state.core round names highs)
 
-  after-vote-size : (s : State) (hash : Hash) (round : ℕ) (votes : List ℕ) (a : Added) → size (afterVote m own s hash round votes a).left.outs ≤ certifyMost
-  after-vote-size s hash round votes NoRoom = size_none certifyMost
-  after-vote-size s hash round votes Used = size_none certifyMost
-  after-vote-size s hash round votes More = size_none certifyMost
+  after-vote-size : (s : State) (hash : Hash) (round : ℕ) (votes : List ℕ) (a : Added) → size (after_vote m own s hash round votes a).left.outs ≤ certify_most
+  after-vote-size s hash round votes NoRoom = size_none certify_most
+  after-vote-size s hash round votes Used = size_none certify_most
+  after-vote-size s hash round votes More = size_none certify_most
   after-vote-size s hash round votes (Full i signers) = certified-size _ _
 
-  vote-tallied-size : (need : ℕ) (s : State) (hash : Hash) (round p stake : ℕ) → size (voteTallied m own need s hash round p stake).left.outs ≤ certifyMost
-  unfolding voteTallied
+  vote-tallied-size : (need : ℕ) (s : State) (hash : Hash) (round p stake : ℕ) → size (vote_tallied m own need s hash round p stake).left.outs ≤ certify_most
+  unfolding vote_tallied
   vote-tallied-size need s hash round p stake =
-      after-vote-size s hash round (votesAfter s.votes round hash p stake need) (voteAdded s.votes round hash p stake need)
+      after-vote-size s hash round (votes_after s.votes round hash p stake need) (vote_added s.votes round hash p stake need)
 
-  after-timeout-size : (s : State) (round : ℕ) (timeouts : List ℕ) (a : Added) → size (afterTimeout m own s round timeouts a).left.outs ≤ timeOutMost
-  after-timeout-size s round timeouts NoRoom = size_none timeOutMost
-  after-timeout-size s round timeouts Used = size_none timeOutMost
-  after-timeout-size s round timeouts More = size_none timeOutMost
+  after-timeout-size : (s : State) (round : ℕ) (timeouts : List ℕ) (a : Added) → size (after_timeout m own s round timeouts a).left.outs ≤ time_out_most
+  after-timeout-size s round timeouts NoRoom = size_none time_out_most
+  after-timeout-size s round timeouts Used = size_none time_out_most
+  after-timeout-size s round timeouts More = size_none time_out_most
   after-timeout-size s round timeouts (Full i names) = timed-out-size _ round _ _
 
-  timeout-tallied-size : (need : ℕ) (s : State) (round p stake high : ℕ) → size (timeoutTallied m own need s round p stake high).left.outs ≤ timeOutMost
-  unfolding timeoutTallied
+  timeout-tallied-size : (need : ℕ) (s : State) (round p stake high : ℕ) → size (timeout_tallied m own need s round p stake high).left.outs ≤ time_out_most
+  unfolding timeout_tallied
   timeout-tallied-size need s round p stake high =
-      after-timeout-size s round (timeoutsAfter s.timeouts round p stake need high) (timeoutAdded s.timeouts round p stake need)
+      after-timeout-size s round (timeouts_after s.timeouts round p stake need high) (timeout_added s.timeouts round p stake need)
 
   -- ---- handlers
 
-  handled-vote-size : (s : State) (v : Vote) → size (handledVote m own s v).left.outs ≤ certifyMost
-  unfolding handledVote
+  handled-vote-size : (s : State) (v : Vote) → size (handled_vote m own s v).left.outs ≤ certify_most
+  unfolding handled_vote
   handled-vote-size s v =
-      by_cases (eqb (voteCheck m s.core.round.0 v) 0) (λ e. rw e (vote-tallied-size (quorumOf m) s v.hash v.round.0 v.author.0 (stakeOf m v.author.0))) (λ e. rw e (size_none certifyMost))
+      by_cases (eqb (vote_check m s.core.round.0 v) 0) (λ e. rw e (vote-tallied-size (quorum_of m) s v.hash v.round.0 v.author.0 (stake_of m v.author.0))) (λ e. rw e (size_none certify_most))
 
-  own-vote-size : (b : Block) (s : State) → size (ownVote m own b s).left.outs ≤ certifyMost
-  unfolding ownVote
+  own-vote-size : (b : Block) (s : State) → size (own_vote m own b s).left.outs ≤ certify_most
+  unfolding own_vote
   own-vote-size b s =
-      by_cases (eqb (error.authorNumber (authorCheck m own 1)) 0) (λ e. rw e (vote-tallied-size (quorumOf m) s b.digest b.round.0 own (stakeOf m own))) (λ e. rw e (size_none certifyMost))
+      by_cases (eqb (error.author_number (author_check m own 1)) 0) (λ e. rw e (vote-tallied-size (quorum_of m) s b.digest b.round.0 own (stake_of m own))) (λ e. rw e (size_none certify_most))
 
-  voted-size : (b : Block) (s : State) → size (voted m own b s).left.outs ≤ votingMost
+  voted-size : (b : Block) (s : State) → size (voted m own b s).left.outs ≤ voting_most
   unfolding voted
   voted-size b s =
-      by_cases (eqb (leaderOf m (b.round.0 + 1)) own)
-      (λ e. rw e (size-both (vote _ _ _ ∷ []) _ 46 certifyMost (size-one (vote _ _ _) 46 (lit≤ tt)) (own-vote-size b _)))
-      (λ e. rw e (size-both (vote _ _ _ ∷ []) [] 46 certifyMost (size-one (vote _ _ _) 46 (lit≤ tt)) (size_none certifyMost)))
+      by_cases (eqb (leader_of m (b.round.0 + 1)) own)
+      (λ e. rw e (size-both (vote _ _ _ ∷ []) _ 46 certify_most (size-one (vote _ _ _) 46 (lit≤ tt)) (own-vote-size b _)))
+      (λ e. rw e (size-both (vote _ _ _ ∷ []) [] 46 certify_most (size-one (vote _ _ _) 46 (lit≤ tt)) (size_none certify_most)))
 
-  voting-size : (b : Block) (s : State) → size (voting m own b s).left.outs ≤ votingMost
+  voting-size : (b : Block) (s : State) → size (voting m own b s).left.outs ≤ voting_most
   unfolding voting
   voting-size b s =
       by_cases (eqb b.round.0 s.core.round.0)
-      (λ e. by_cases (mayVote s.core b) (λ f. rw (e, f) (voted-size b s)) (λ f. rw (e, f) (size_none votingMost)))
-      (λ e. rw e (size_none votingMost))
+      (λ e. by_cases (may_vote s.core b) (λ f. rw (e, f) (voted-size b s)) (λ f. rw (e, f) (size_none voting_most)))
+      (λ e. rw e (size_none voting_most))
 
-  timeout-taken-size : (s : State) (t : Timeout) (signers : Signers) → size (timeoutTaken m own s t signers).left.outs ≤ handleTimeoutMost
-  unfolding timeoutTaken
-  timeout-taken-size s t signers = size-both _ _ advanceMost timeOutMost (takenQC-size s _) (timeout-tallied-size (quorumOf m) _ t.round.0 t.author.0 (stakeOf m t.author.0) t.qc_round.0)
+  timeout-taken-size : (s : State) (t : Timeout) (signers : Signers) → size (timeout_taken m own s t signers).left.outs ≤ handle_timeout_most
+  unfolding timeout_taken
+  timeout-taken-size s t signers = size-both _ _ advance_most time_out_most (taken_qc-size s _) (timeout-tallied-size (quorum_of m) _ t.round.0 t.author.0 (stake_of m t.author.0) t.qc_round.0)
 
-  timeout-with-size : (s : State) (t : Timeout) (qc : Checked) → size (timeoutWith m own s t qc).left.outs ≤ handleTimeoutMost
-  unfolding timeoutWith
+  timeout-with-size : (s : State) (t : Timeout) (qc : Checked) → size (timeout_with m own s t qc).left.outs ≤ handle_timeout_most
+  unfolding timeout_with
   timeout-with-size s t qc =
-      by_cases (eqb (first (timeoutCheck m s.core.round.0 t) (error.number_of qc error.qcRequiresQuorum)) 0) (λ e. rw e (timeout-taken-size s t (signersOf qc))) (λ e. rw e (size_none handleTimeoutMost))
+      by_cases (eqb (first (timeout_check m s.core.round.0 t) (error.number_of qc error.qc_requires_quorum)) 0) (λ e. rw e (timeout-taken-size s t (signers_of qc))) (λ e. rw e (size_none handle_timeout_most))
 
-  handled-timeout-size : (s : State) (t : Timeout) (r : List ℕ) → size (handledTimeout m own s t r).left.outs ≤ handleTimeoutMost
-  unfolding handledTimeout
-  handled-timeout-size s t r = timeout-with-size s t (embeddedCheck m (quorumOf m) (qcPart r timeoutQC))
+  handled-timeout-size : (s : State) (t : Timeout) (r : List ℕ) → size (handled_timeout m own s t r).left.outs ≤ handle_timeout_most
+  unfolding handled_timeout
+  handled-timeout-size s t r = timeout-with-size s t (embedded_check m (quorum_of m) (qc_part r timeout_qc))
 
-  tc-taken-size : (s : State) (round : ℕ) (names : Signers) (part : List ℕ) → size (tcTaken m own s round names part).outs ≤ handleTCMost
-  unfolding tcTaken
-  tc-taken-size s round names part = size-both _ _ advanceMost makeWithMost (advanced-size s round) (make-with-size _ round names.0 _)
+  tc-taken-size : (s : State) (round : ℕ) (names : Signers) (part : List ℕ) → size (tc_taken m own s round names part).outs ≤ handle_tc_most
+  unfolding tc_taken
+  tc-taken-size s round names part = size-both _ _ advance_most make_with_most (advanced-size s round) (make-with-size _ round names.0 _)
 
-  tc-with-size : (s : State) (round : ℕ) (part : List ℕ) (c : Checked) → size (tcWith m own s round part c).left.outs ≤ handleTCMost
-  unfolding tcWith
+  tc-with-size : (s : State) (round : ℕ) (part : List ℕ) (c : Checked) → size (tc_with m own s round part c).left.outs ≤ handle_tc_most
+  unfolding tc_with
   tc-with-size s round part c =
-      by_cases (eqb (first (error.number_of c error.tcRequiresQuorum) (staleIf round s.core.round.0)) 0) (λ e. rw e (tc-taken-size s round (signersOf c) part)) (λ e. rw e (size_none handleTCMost))
+      by_cases (eqb (first (error.number_of c error.tc_requires_quorum) (stale_if round s.core.round.0)) 0) (λ e. rw e (tc-taken-size s round (signers_of c) part)) (λ e. rw e (size_none handle_tc_most))
 
-  handled-tc-size : (s : State) (round : ℕ) (r : List ℕ) → size (handledTC m own s round r).left.outs ≤ handleTCMost
-  unfolding handledTC
-  handled-tc-size s round r = tc-with-size s round (tcPart r tcBody) (tcCheck m (quorumOf m) (tcPart r tcBody))
+  handled-tc-size : (s : State) (round : ℕ) (r : List ℕ) → size (handled_tc m own s round r).left.outs ≤ handle_tc_most
+  unfolding handled_tc
+  handled-tc-size s round r = tc-with-size s round (tc_part r tc_body) (tc_check m (quorum_of m) (tc_part r tc_body))
 
-  own-timeout-size : (s : State) → size (ownTimeout m own s).left.outs ≤ timeOutMost
-  unfolding ownTimeout
+  own-timeout-size : (s : State) → size (own_timeout m own s).left.outs ≤ time_out_most
+  unfolding own_timeout
   own-timeout-size s =
-      by_cases (eqb (error.authorNumber (authorCheck m own 1)) 0) (λ e. rw e (timeout-tallied-size (quorumOf m) s s.core.round.0 own (stakeOf m own) s.core.high_qc.round.0)) (λ e. rw e (size_none timeOutMost))
+      by_cases (eqb (error.author_number (author_check m own 1)) 0) (λ e. rw e (timeout-tallied-size (quorum_of m) s s.core.round.0 own (stake_of m own) s.core.high_qc.round.0)) (λ e. rw e (size_none time_out_most))
 
-  tick-outs-size : (round : ℕ) (q : QC) → size (timerReset ∷ timeout round q ∷ []) ≤ 64
-  tick-outs-size round q = size-both (timerReset ∷ []) (timeout round q ∷ []) 4 60 (size-one timerReset 4 (lit≤ tt)) (size-one (timeout round q) 60 (lit≤ tt))
+  tick-outs-size : (round : ℕ) (q : QC) → size (timer_reset ∷ timeout round q ∷ []) ≤ 64
+  tick-outs-size round q = size-both (timer_reset ∷ []) (timeout round q ∷ []) 4 60 (size-one timer_reset 4 (lit≤ tt)) (size-one (timeout round q) 60 (lit≤ tt))
 
-  handled-tick-size : (s : State) → size (handledTick m own s).left.outs ≤ localTimeoutMost
-  unfolding handledTick
+  handled-tick-size : (s : State) → size (handled_tick m own s).left.outs ≤ local_timeout_most
+  unfolding handled_tick
   handled-tick-size s =
-      by_cases (ltb roundMax s.core.round.0) (λ e. rw e (size_none localTimeoutMost))
-      (λ e. rw e (size-both _ _ 64 timeOutMost (tick-outs-size s.core.round.0 s.core.high_qc) (own-timeout-size _)))
+      by_cases (ltb round_max s.core.round.0) (λ e. rw e (size_none local_timeout_most))
+      (λ e. rw e (size-both _ _ 64 time_out_most (tick-outs-size s.core.round.0 s.core.high_qc) (own-timeout-size _)))
 
   -- ---- proposals, up to the table
 
-  advanced-tc-size : (b : Block) (s : State) → size (advancedTC b s).outs ≤ advanceMost
-  unfolding advancedTC
-  advanced-tc-size b s = by_cases (eqb b.tc 0) (λ e. rw e (size_none advanceMost)) (λ e. rw e (advanced-size s b.tc_round.0))
+  advanced-tc-size : (b : Block) (s : State) → size (advanced_tc b s).outs ≤ advance_most
+  unfolding advanced_tc
+  advanced-tc-size b s = by_cases (eqb b.tc 0) (λ e. rw e (size_none advance_most)) (λ e. rw e (advanced-size s b.tc_round.0))
 
-  taken-size : (s : State) (b : Block) (signers : Signers) → size (taken s b signers).outs ≤ takenMost
+  taken-size : (s : State) (b : Block) (signers : Signers) → size (taken s b signers).outs ≤ taken_most
   unfolding taken
-  taken-size s b signers = size-both _ _ advanceMost advanceMost (takenQC-size s _) (advanced-tc-size b _)
+  taken-size s b signers = size-both _ _ advance_most advance_most (taken_qc-size s _) (advanced-tc-size b _)
 
-  proposal-with-size : (s : State) (b : Block) (r : List ℕ) (payload : ℕ) (qc : Checked) → size (proposalWith m s b r payload qc).out.left.outs ≤ takenMost
-  unfolding proposalWith byPayload
-  proposal-with-size s b r payload qc = by_cases (eqb (proposalCheck m b r qc) 0) (λ e. rw e (taken-size s b _)) (λ e. rw e (size_none takenMost))
+  proposal-with-size : (s : State) (b : Block) (r : List ℕ) (payload : ℕ) (qc : Checked) → size (proposal_with m s b r payload qc).out.left.outs ≤ taken_most
+  unfolding proposal_with by_payload
+  proposal-with-size s b r payload qc = by_cases (eqb (proposal_check m b r qc) 0) (λ e. rw e (taken-size s b _)) (λ e. rw e (size_none taken_most))
 
-  proposal-size : (s : State) (b : Block) (r : List ℕ) (payload : ℕ) → size (proposalOf m s b r payload).out.left.outs ≤ takenMost
-  unfolding proposalOf
-  proposal-size s b r payload = proposal-with-size s b r payload (embeddedCheck m (quorumOf m) (qcPart r blockQC))
+  proposal-size : (s : State) (b : Block) (r : List ℕ) (payload : ℕ) → size (proposal_of m s b r payload).out.left.outs ≤ taken_most
+  unfolding proposal_of
+  proposal-size s b r payload = proposal-with-size s b r payload (embedded_check m (quorum_of m) (qc_part r block_qc))
 
 -- ---- the table
 
-clean-size : (b0 b1 b : Slot) → size (cleanOf b0 b1 b) ≤ cleanMost
-unfolding cleanOf
+clean-size : (b0 b1 b : Slot) → size (clean_of b0 b1 b) ≤ clean_most
+unfolding clean_of
 clean-size b0 b1 b =
-    by_cases (isTwoChain b0 b1)
-    (λ e. rw e (size-both (cleanProposer _ _ _ ∷ []) (cleanMempool _ ∷ []) 100 12 (size-one (cleanProposer _ _ _) 100 (lit≤ tt)) (size-one (cleanMempool _) 12 (lit≤ tt))))
-    (λ e. rw e (size-both (cleanProposer _ _ _ ∷ []) [] 100 12 (size-one (cleanProposer _ _ _) 100 (lit≤ tt)) (size_none 12)))
+    by_cases (is_two_chain b0 b1)
+    (λ e. rw e (size-both (clean_proposer _ _ _ ∷ []) (clean_mempool _ ∷ []) 100 12 (size-one (clean_proposer _ _ _) 100 (lit≤ tt)) (size-one (clean_mempool _) 12 (lit≤ tt))))
+    (λ e. rw e (size-both (clean_proposer _ _ _ ∷ []) [] 100 12 (size-one (clean_proposer _ _ _) 100 (lit≤ tt)) (size_none 12)))
 
-commits-size : (bs : List Slot) → size (map commitRec bs) ≡ commitSize * length bs
-commits-size bs = length-each commitRec commitSize (λ b. length-enc (commitRec b)) bs
+commits-size : (bs : List Slot) → size (map commit_rec bs) ≡ commit_size * length bs
+commits-size bs = length-each commit_rec commit_size (λ b. length-enc (commit_rec b)) bs
 
-linked-size : (t : List Slot) (b b0 b1 : Slot) (last n : ℕ) → length (commitIf t b0 b1 last).blocks ≤ n → size (linkedOf t b b0 b1 last).outs ≤ settleMost n
-unfolding linkedOf
+linked-size : (t : List Slot) (b b0 b1 : Slot) (last n : ℕ) → length (commit_if t b0 b1 last).blocks ≤ n → size (linked_of t b b0 b1 last).outs ≤ settle_most n
+unfolding linked_of
 linked-size t b b0 b1 last n h =
-    size-both (cleanOf b0 b1 b) (map commitRec (commitIf t b0 b1 last).blocks) cleanMost (commitSize * n) (clean-size b0 b1 b)
-    (rw (commits-size (commitIf t b0 b1 last).blocks) (omega arith))
+    size-both (clean_of b0 b1 b) (map commit_rec (commit_if t b0 b1 last).blocks) clean_most (commit_size * n) (clean-size b0 b1 b)
+    (rw (commits-size (commit_if t b0 b1 last).blocks) (omega arith))
 
-processed-size : (t : List Slot) (w : Work) → size (processedOf t w).outs ≤ settleMost (length t)
-unfolding processedBy
+processed-size : (t : List Slot) (w : Work) → size (processed_of t w).outs ≤ settle_most (length t)
+unfolding processed_by
 processed-size t w =
-    by_cases (eqb (ancestorsOf t w.block).answer 0)
+    by_cases (eqb (ancestors_of t w.block).answer 0)
     (λ e. by_cases (ltb (place_of t w.block) (length t))
     (λ f. rw (e, f) (linked-size _ _ _ _ _ (length t) (commits-fit t w.block w.last.0 (eqb-true _ _ e))))
-    (λ f. rw (e, f) (size_none (settleMost (length t)))))
-    (λ e. rw e (size_none (settleMost (length t))))
+    (λ f. rw (e, f) (size_none (settle_most (length t)))))
+    (λ e. rw e (size_none (settle_most (length t))))
 
 -- where a block waits, SYNC is all that is written
-wait-size : (w : Work) → size (waitOf w waitParent) ≤ cleanMost
-unfolding waitOf
-wait-size w = size-one (sync _ _ _) cleanMost (lit≤ tt)
+wait-size : (w : Work) → size (wait_of w wait_parent) ≤ clean_most
+unfolding wait_of
+wait-size w = size-one (sync _ _ _) clean_most (lit≤ tt)
 
-asking-size : (t : List Slot) (w : Work) → size (asking w (processedOf t w)).outs ≤ settleMost (length t)
+asking-size : (t : List Slot) (w : Work) → size (asking w (processed_of t w)).outs ≤ settle_most (length t)
 asking-size t w =
-    by_cases (eqb (processedOf t w).answer waitParent)
-    (λ e. let z : (processedOf t w).answer ≡ waitParent = eqb-true _ _ e in
-    rw (processed-waits t w z, z) (size_less _ cleanMost (settleMost (length t)) (omega arith) (wait-size w)))
-    (λ e. rw (wait-none w (processedOf t w).answer e, append-nil) (processed-size t w))
+    by_cases (eqb (processed_of t w).answer wait_parent)
+    (λ e. let z : (processed_of t w).answer ≡ wait_parent = eqb-true _ _ e in
+    rw (processed-waits t w z, z) (size_less _ clean_most (settle_most (length t)) (omega arith) (wait-size w)))
+    (λ e. rw (wait-none w (processed_of t w).answer e, append-nil) (processed-size t w))
 
-settled-size : (t : List Slot) (w : Work) → size (settled_of t w).outs ≤ settleMost (length t)
+settled-size : (t : List Slot) (w : Work) → size (settled_of t w).outs ≤ settle_most (length t)
 settled-size t w =
     by_cases (eqb w.does settle.block)
     (λ e. rw (settled-block t w (eqb-true _ _ e)) (asking-size t w))
-    (λ e. rw (settled-silent t w (eqb-false _ _ e)) (size_none (settleMost (length t))))
+    (λ e. rw (settled-silent t w (eqb-false _ _ e)) (size_none (settle_most (length t))))
 
 -- ---- blocks
 
 module _ (m : List ℕ) (own : ℕ) (t : List Slot) where
-  block_size : (b : Block) (s : State) → size (processed m own t b s).left.outs ≤ settleMost (length t) + votingMost
-  unfolding processed afterSettled settledFor
+  block_size : (b : Block) (s : State) → size (processed m own t b s).left.outs ≤ settle_most (length t) + voting_most
+  unfolding processed after_settled settled_for
   block_size b s =
-      by_cases (eqb (settledFor s t b).answer 0)
-      (λ e. rw e (size-both _ _ (settleMost (length t)) votingMost (settled-size t _) (voting-size m own b _)))
-      (λ e. rw e (size_less _ (settleMost (length t)) (settleMost (length t) + votingMost) (omega arith) (settled-size t _)))
+      by_cases (eqb (settled_for s t b).answer 0)
+      (λ e. rw e (size-both _ _ (settle_most (length t)) voting_most (settled-size t _) (voting-size m own b _)))
+      (λ e. rw e (size_less _ (settle_most (length t)) (settle_most (length t) + voting_most) (omega arith) (settled-size t _)))
 
-  going-size : (b : Block) (p : Proposal) → size p.out.left.outs ≤ takenMost → size (goingOn m own t b p).left.outs ≤ takenMost + (settleMost (length t) + votingMost)
-  unfolding goingOn
+  going-size : (b : Block) (p : Proposal) → size p.out.left.outs ≤ taken_most → size (going_on m own t b p).left.outs ≤ taken_most + (settle_most (length t) + voting_most)
+  unfolding going_on
   going-size b p h =
-      by_cases p.goesOn
-      (λ e. rw e (size-both _ _ takenMost (settleMost (length t) + votingMost) h (block_size b _)))
-      (λ e. rw e (size_less _ takenMost (takenMost + (settleMost (length t) + votingMost)) (omega arith) h))
+      by_cases p.goes_on
+      (λ e. rw e (size-both _ _ taken_most (settle_most (length t) + voting_most) h (block_size b _)))
+      (λ e. rw e (size_less _ taken_most (taken_most + (settle_most (length t) + voting_most)) (omega arith) h))
 
-  block-slots : (b : Block) (s : State) → length (processedTable t b s) ≡ length t
-  unfolding processedTable settledFor
+  block-slots : (b : Block) (s : State) → length (processed_table t b s) ≡ length t
+  unfolding processed_table settled_for
   block-slots b s = settled-length t _
 
-  going-slots : (b : Block) (p : Proposal) → length (goingOnTable t b p) ≡ length t
-  unfolding goingOnTable
-  going-slots b p = by_cases p.goesOn (λ e. rw e (block-slots b _)) (λ e. rw e)
+  going-slots : (b : Block) (p : Proposal) → length (going_on_table t b p) ≡ length t
+  unfolding going_on_table
+  going-slots b p = by_cases p.goes_on (λ e. rw e (block-slots b _)) (λ e. rw e)
 
 -- ---- one event
 
@@ -299,39 +299,39 @@ module _ (w : World) where
   handled-size r Kind.Bad = size_none most
   handled-size r Kind.Start = size_none most
   handled-size r Kind.Propose =
-      size_less _ (takenMost + (settleMost (length w.table) + votingMost)) most (omega arith)
-      (going-size (committee w) w.seat.own.0 w.table (block_of r) _ (proposal-size (committee w) w.seat.own.0 w.state (block_of r) r (payloadOf r)))
-  handled-size r Kind.Vote = size_less _ certifyMost most (omega arith) (handled-vote-size (committee w) w.seat.own.0 w.state (voteOf r))
-  handled-size r Kind.Timeout = size_less _ handleTimeoutMost most (omega arith) (handled-timeout-size (committee w) w.seat.own.0 w.state (timeoutOf r) r)
-  handled-size r Kind.Tc = size_less _ handleTCMost most (omega arith) (handled-tc-size (committee w) w.seat.own.0 w.state (tcRound r tcBody) r)
+      size_less _ (taken_most + (settle_most (length w.table) + voting_most)) most (omega arith)
+      (going-size (committee w) w.seat.own.0 w.table (block_of r) _ (proposal-size (committee w) w.seat.own.0 w.state (block_of r) r (payload_of r)))
+  handled-size r Kind.Vote = size_less _ certify_most most (omega arith) (handled-vote-size (committee w) w.seat.own.0 w.state (vote_of r))
+  handled-size r Kind.Timeout = size_less _ handle_timeout_most most (omega arith) (handled-timeout-size (committee w) w.seat.own.0 w.state (timeout_of r) r)
+  handled-size r Kind.Tc = size_less _ handle_tc_most most (omega arith) (handled-tc-size (committee w) w.seat.own.0 w.state (tc_round r tc_body) r)
   handled-size r Kind.Loopback =
-      size_less _ (settleMost (length w.table) + votingMost) most (omega arith) (block_size (committee w) w.seat.own.0 w.table (block_of r) w.state)
-  handled-size r Kind.Tick = size_less _ localTimeoutMost most (omega arith) (handled-tick-size (committee w) w.seat.own.0 w.state)
+      size_less _ (settle_most (length w.table) + voting_most) most (omega arith) (block_size (committee w) w.seat.own.0 w.table (block_of r) w.state)
+  handled-size r Kind.Tick = size_less _ local_timeout_most most (omega arith) (handled-tick-size (committee w) w.seat.own.0 w.state)
 
-  announced-size : (m : List ℕ) (own : ℕ) (c : Core) → size (announced m own c) ≤ announcedMost
+  announced-size : (m : List ℕ) (own : ℕ) (c : Core) → size (announced m own c) ≤ announced_most
   unfolding announced
-  announced-size m own c = size-both (timerReset ∷ []) (makeOf m own c) 4 61 (size-one timerReset 4 (lit≤ tt)) (make-size m own c)
+  announced-size m own c = size-both (timer_reset ∷ []) (make_of m own c) 4 61 (size-one timer_reset 4 (lit≤ tt)) (make-size m own c)
 
-  begun-size : (r : List ℕ) (st : Setup) → size (begunBy w r st).outs ≤ most
+  begun-size : (r : List ℕ) (st : Setup) → size (begun_by w r st).outs ≤ most
   begun-size r Bad = size_none most
-  begun-size r (Total t) = size_less _ announcedMost most (omega arith) (announced-size _ _ _)
+  begun-size r (Total t) = size_less _ announced_most most (omega arith) (announced-size _ _ _)
 
-  on-start-size : (room : ℕ) (r : List ℕ) (st : Setup) → size (onStart w room r st).outs ≤ most
+  on-start-size : (room : ℕ) (r : List ℕ) (st : Setup) → size (on_start w room r st).outs ≤ most
   unfolding begun
   on-start-size room r (Total t) = size_none most
   on-start-size room r Bad =
       by_cases (roomy (length w.table) room)
-      (λ e. by_cases (sizedIn w) (λ f. rw (e, f) (begun-size r (setupAt (drop 2 r)))) (λ f. rw (e, f) (size_none most)))
+      (λ e. by_cases (sized_in w) (λ f. rw (e, f) (begun-size r (setup_at (drop 2 r)))) (λ f. rw (e, f) (size_none most)))
       (λ e. rw e (size_none most))
 
-  on-other-size : (room : ℕ) (r : List ℕ) (k : Kind) (st : Setup) → size (onOther w room r k st).outs ≤ most
+  on-other-size : (room : ℕ) (r : List ℕ) (k : Kind) (st : Setup) → size (on_other w room r k st).outs ≤ most
   on-other-size room r k Bad = size_none most
   on-other-size room r k (Total t) =
       by_cases (roomy (length w.table) room)
-      (λ e. by_cases (eqb (limitOf r k) 0) (λ f. rw (e, f) (handled-size r k)) (λ f. rw (e, f) (size_none most)))
+      (λ e. by_cases (eqb (limit_of r k) 0) (λ f. rw (e, f) (handled-size r k)) (λ f. rw (e, f) (size_none most)))
       (λ e. rw e (size_none most))
 
-  on-kind-size : (room : ℕ) (r : List ℕ) (k : Kind) → size (onKind w room r k).outs ≤ most
+  on-kind-size : (room : ℕ) (r : List ℕ) (k : Kind) → size (on_kind w room r k).outs ≤ most
   on-kind-size room r Kind.Bad = size_none most
   on-kind-size room r Kind.Start = on-start-size room r (started w)
   on-kind-size room r Kind.Propose = on-other-size room r Kind.Propose (started w)
@@ -357,26 +357,26 @@ module _ (w : World) where
   handled-slots r Kind.Loopback = block-slots (committee w) w.seat.own.0 w.table (block_of r) w.state
   handled-slots r Kind.Tick = refl
 
-  begun-slots : (r : List ℕ) (st : Setup) → length (begunBy w r st).world.table ≡ length w.table
+  begun-slots : (r : List ℕ) (st : Setup) → length (begun_by w r st).world.table ≡ length w.table
   begun-slots r Bad = refl
   begun-slots r (Total t) = cleared-length w.table
 
-  on-start-slots : (room : ℕ) (r : List ℕ) (st : Setup) → length (onStart w room r st).world.table ≡ length w.table
+  on-start-slots : (room : ℕ) (r : List ℕ) (st : Setup) → length (on_start w room r st).world.table ≡ length w.table
   unfolding begun
   on-start-slots room r (Total t) = refl
   on-start-slots room r Bad =
       by_cases (roomy (length w.table) room)
-      (λ e. by_cases (sizedIn w) (λ f. rw (e, f) (begun-slots r (setupAt (drop 2 r)))) (λ f. rw (e, f)))
+      (λ e. by_cases (sized_in w) (λ f. rw (e, f) (begun-slots r (setup_at (drop 2 r)))) (λ f. rw (e, f)))
       (λ e. rw e)
 
-  on-other-slots : (room : ℕ) (r : List ℕ) (k : Kind) (st : Setup) → length (onOther w room r k st).world.table ≡ length w.table
+  on-other-slots : (room : ℕ) (r : List ℕ) (k : Kind) (st : Setup) → length (on_other w room r k st).world.table ≡ length w.table
   on-other-slots room r k Bad = refl
   on-other-slots room r k (Total t) =
       by_cases (roomy (length w.table) room)
-      (λ e. by_cases (eqb (limitOf r k) 0) (λ f. rw (e, f) (handled-slots r k)) (λ f. rw (e, f)))
+      (λ e. by_cases (eqb (limit_of r k) 0) (λ f. rw (e, f) (handled-slots r k)) (λ f. rw (e, f)))
       (λ e. rw e)
 
-  on-kind-slots : (room : ℕ) (r : List ℕ) (k : Kind) → length (onKind w room r k).world.table ≡ length w.table
+  on-kind-slots : (room : ℕ) (r : List ℕ) (k : Kind) → length (on_kind w room r k).world.table ≡ length w.table
   on-kind-slots room r Kind.Bad = refl
   on-kind-slots room r Kind.Start = on-start-slots room r (started w)
   on-kind-slots room r Kind.Propose = on-other-slots room r Kind.Propose (started w)

@@ -7,11 +7,11 @@ use native.Mathlib.Omega.{arith}
 use borrow.Author.Tests.{eq-eqb, ne_eqb}
 use lib.Dec.{eqb}
 use lib.ListN.{length, take, drop, replicate}
-use Rattle.certificates.specs.Config.{membersMax, quorumFrom, quorumOf}
-use Rattle.certificates.specs.Start.{memberCount, ownPlace, setupAt, loadedStakes}
+use Rattle.certificates.specs.Config.{members_max, quorum_from, quorum_of}
+use Rattle.certificates.specs.Start.{member_count, own_place, setup_at, loaded_stakes}
 use Rattle.certificates.proofs.ConfigLaws.{quorum-total}
 use Rattle.certificates.proofs.StartLaws.{started as start_of_lem, length-loaded}
-use Rattle.certificates.specs.Error.{badRecord, badSetup, noRoom, notStarted, startedAgain}
+use Rattle.certificates.specs.Error.{bad_record, bad_setup, no_room, not_started, started_again}
 use Rattle.certificates.specs.declared.numbers.Place.{Place}
 use Rattle.certificates.specs.declared.numbers.Stake.{Stake}
 use Rattle.certificates.specs.declared.config.Setup.{Setup}
@@ -21,27 +21,27 @@ use Rattle.trace.specs.declared.events.Vote.{Vote}
 use Rattle.trace.specs.declared.events.Timeout.{Timeout}
 use Rattle.trace.specs.declared.events.Block.{Block}
 use Rattle.trace.specs.Form.{form_of}
-use Rattle.trace.specs.Limits.{limitOf}
-use Rattle.trace.specs.Fields.{voteOf, timeoutOf, block_of}
-use Rattle.certificates.specs.Numbers.{roundMax}
-use Rattle.trace.specs.Layout.{tcBody, tcRound, payloadOf}
-use Rattle.aggregator.specs.Tallies.{votesLength, timeoutsLength}
+use Rattle.trace.specs.Limits.{limit_of}
+use Rattle.trace.specs.Fields.{vote_of, timeout_of, block_of}
+use Rattle.certificates.specs.Numbers.{round_max}
+use Rattle.trace.specs.Layout.{tc_body, tc_round, payload_of}
+use Rattle.aggregator.specs.Tallies.{votes_length, timeouts_length}
 use Rattle.outputs.specs.Put.{Put, Wrote}
 use Rattle.outputs.proofs.Wrote.{wrote_one, wrote_then, wrote-more}
-use Rattle.outputs.specs.Records.{timerReset, enc, makeSize}
+use Rattle.outputs.specs.Records.{timer_reset, enc, make_size}
 use Rattle.moves.specs.declared.state.Core.{Core}
 use Rattle.moves.specs.declared.state.Ran.{Ran}
-use Rattle.moves.specs.State.{State, whole, withCore, withCommitted}
+use Rattle.moves.specs.State.{State, whole, with_core, with_committed}
 use Rattle.moves.specs.Outcome.{Outcome, quiet, done, refused, Did, Reached}
-use Rattle.moves.specs.Moves.{makeOf, certifyMost}
+use Rattle.moves.specs.Moves.{make_of, certify_most}
 use Rattle.moves.proofs.Outcomes.{did-quiet, did_more}
 use Rattle.handlers.specs.Sound.{Sound}
 use Rattle.trace.proofs.LimitLaws.{loopback-limit, vote-round-le, timeout-round-le, timeout-qc-round-le, tc-event-round-le, block-round-le, block-qc-round-le, block-tc-round-le}
 use Rattle.aggregator.specs.Rows.{zeros}
 use Rattle.handlers.proofs.ProposalTheorems.{proposal-goes-on, taken-sound}
-use Rattle.handlers.specs.Votes.{handledVote, voting, votingMost}
-use Rattle.handlers.specs.Timeouts.{handledTimeout, handledTC, handledTick}
-use Rattle.handlers.specs.Proposals.{Proposal, proposalOf, Proposes}
+use Rattle.handlers.specs.Votes.{handled_vote, voting, voting_most}
+use Rattle.handlers.specs.Timeouts.{handled_timeout, handled_tc, handled_tick}
+use Rattle.handlers.specs.Proposals.{Proposal, proposal_of, Proposes}
 use Rattle.handlers.specs.declared.proposals.Proposed.{Proposed}
 use Rattle.replica.specs.declared.started.Seat.{Seat}
 use Rattle.replica.specs.declared.stages.Handed.{Handed}
@@ -49,16 +49,16 @@ use Rattle.replica.specs.declared.stages.Begun.{Begun}
 use Rattle.replica.specs.declared.stages.Booting.{Booting}
 use Rattle.replica.specs.declared.stages.Booting.TheVariants.{NoRoom, BadSetup, Good}
 use Rattle.replica.specs.declared.stages.Stepped.{Stepped}
-use Rattle.replica.specs.Started.{members_of, sized, startedOf, room_for, roomy}
-use Rattle.replica.specs.Step.{newCore, newSeat, newStakes, newState, announced, startOuts, announcedMost}
-use Rattle.replica.specs.Stages.{Stage, Handled, ended, alone, byProposal, handledIn, inSeat, readyIn, Filled, Boots, bootedBy, bootingOf, startedIn, isStart, isBad, bySetup, stagedOf, finishedOf, earlyBegun, ranHanded, handedBegun, firstMost, Going, Handles, Ongoing, Begins, Finishes}
+use Rattle.replica.specs.Started.{members_of, sized, started_of, room_for, roomy}
+use Rattle.replica.specs.Step.{new_core, new_seat, new_stakes, new_state, announced, start_outs, announced_most}
+use Rattle.replica.specs.Stages.{Stage, Handled, ended, alone, by_proposal, handled_in, in_seat, ready_in, Filled, Boots, booted_by, booting_of, started_in, is_start, is_bad, by_setup, staged_of, finished_of, early_begun, ran_handed, handed_begun, first_most, Going, Handles, Ongoing, Begins, Finishes}
 use Rattle.replica.proofs.StartedLaws.{Ready, started-ready, sized-has, members-part}
 use Rattle.replica.proofs.StepLaws.{roomy-has}
 
 -- ---- a refusal before anything is done
 
 module _ (seat : Seat) (stakes : List ℕ) (core : Core) (votes timeouts r out : List ℕ) where
-  pub begins-early : (room : Bool) (n : ℕ) {b : Begun} → b ≡ earlyBegun seat core n
+  pub begins-early : (room : Bool) (n : ℕ) {b : Begun} → b ≡ early_begun seat core n
       → Begins (ended seat stakes (refused n (whole core votes timeouts))) room r out b stakes votes timeouts out
   begins-early room n e =
       rw e
@@ -67,7 +67,7 @@ module _ (seat : Seat) (stakes : List ℕ) (core : Core) (votes timeouts r out :
         sits = refl;
         held = refl;
         answer = refl;
-        did = did-quiet firstMost core votes timeouts out 0;
+        did = did-quiet first_most core votes timeouts out 0;
         fits = omega arith;
         going = λ (h : ◌≡◌ {A = ℕ} 0 2). absurd (omega arith);
       }
@@ -75,33 +75,33 @@ module _ (seat : Seat) (stakes : List ℕ) (core : Core) (votes timeouts r out :
   module _ (room : Bool) where
     -- ---- the order of refusals
 
-    module _ {k : Kind} (e : k ≡ form_of r) {bad : Bool} (f : bad ≡ isBad k) where
-      pub begin-bad : {b : Begun} → bad ≡ true → b ≡ earlyBegun seat core badRecord
-          → Begins (stagedOf seat stakes (whole core votes timeouts) room r) room r out b stakes votes timeouts out
-      unfolding stagedOf
-      begin-bad h i = rw (← e, ← f, h) (begins-early room badRecord i)
+    module _ {k : Kind} (e : k ≡ form_of r) {bad : Bool} (f : bad ≡ is_bad k) where
+      pub begin-bad : {b : Begun} → bad ≡ true → b ≡ early_begun seat core bad_record
+          → Begins (staged_of seat stakes (whole core votes timeouts) room r) room r out b stakes votes timeouts out
+      unfolding staged_of
+      begin-bad h i = rw (← e, ← f, h) (begins-early room bad_record i)
 
-      module _ (good : bad ≡ false) {st : Setup} (s : st ≡ startedOf seat stakes votes timeouts) {first : Bool} (g : first ≡ isStart k) where
+      module _ (good : bad ≡ false) {st : Setup} (s : st ≡ started_of seat stakes votes timeouts) {first : Bool} (g : first ≡ is_start k) where
         pub begin-start : {b : Begun} {stakes' votes' timeouts' out' : List ℕ} → st ≡ Bad → first ≡ true
-            → Begins (startedIn seat stakes (whole core votes timeouts) room r) room r out b stakes' votes' timeouts' out'
-            → Begins (stagedOf seat stakes (whole core votes timeouts) room r) room r out b stakes' votes' timeouts' out'
-        unfolding stagedOf
+            → Begins (started_in seat stakes (whole core votes timeouts) room r) room r out b stakes' votes' timeouts' out'
+            → Begins (staged_of seat stakes (whole core votes timeouts) room r) room r out b stakes' votes' timeouts' out'
+        unfolding staged_of
         begin-start h i p = rw (← e, ← f, good, ← s, h, ← g, i) p
 
-        pub begin-not-started : {b : Begun} → st ≡ Bad → first ≡ false → b ≡ earlyBegun seat core notStarted
-            → Begins (stagedOf seat stakes (whole core votes timeouts) room r) room r out b stakes votes timeouts out
-        unfolding stagedOf
-        begin-not-started h i p = rw (← e, ← f, good, ← s, h, ← g, i) (begins-early room notStarted p)
+        pub begin-not-started : {b : Begun} → st ≡ Bad → first ≡ false → b ≡ early_begun seat core not_started
+            → Begins (staged_of seat stakes (whole core votes timeouts) room r) room r out b stakes votes timeouts out
+        unfolding staged_of
+        begin-not-started h i p = rw (← e, ← f, good, ← s, h, ← g, i) (begins-early room not_started p)
 
-        pub begin-again : {t : Stake} {b : Begun} → st ≡ Total t → first ≡ true → b ≡ earlyBegun seat core startedAgain
-            → Begins (stagedOf seat stakes (whole core votes timeouts) room r) room r out b stakes votes timeouts out
-        unfolding stagedOf
-        begin-again h i p = rw (← e, ← f, good, ← s, h, ← g, i) (begins-early room startedAgain p)
+        pub begin-again : {t : Stake} {b : Begun} → st ≡ Total t → first ≡ true → b ≡ early_begun seat core started_again
+            → Begins (staged_of seat stakes (whole core votes timeouts) room r) room r out b stakes votes timeouts out
+        unfolding staged_of
+        begin-again h i p = rw (← e, ← f, good, ← s, h, ← g, i) (begins-early room started_again p)
 
         pub begin-ready : {t : Stake} {b : Begun} {votes' timeouts' out' : List ℕ} → st ≡ Total t → first ≡ false
-            → Begins (readyIn seat stakes (whole core votes timeouts) room r k) room r out b stakes votes' timeouts' out'
-            → Begins (stagedOf seat stakes (whole core votes timeouts) room r) room r out b stakes votes' timeouts' out'
-        unfolding stagedOf
+            → Begins (ready_in seat stakes (whole core votes timeouts) room r k) room r out b stakes votes' timeouts' out'
+            → Begins (staged_of seat stakes (whole core votes timeouts) room r) room r out b stakes votes' timeouts' out'
+        unfolding staged_of
         begin-ready h i p = rw (← e, ← f, good, ← s, h, ← g, i) p
 
   module _ (slots : ℕ) {t : Bool} (e : t ≡ roomy slots (length out)) where
@@ -111,23 +111,23 @@ module _ (seat : Seat) (stakes : List ℕ) (core : Core) (votes timeouts r out :
     -- ---- an event of a started replica
 
     module _ (k : Kind) where
-      pub ready-no-room : {b : Begun} → t ≡ false → b ≡ earlyBegun seat core noRoom
-          → Begins (readyIn seat stakes (whole core votes timeouts) roomful r k) roomful r out b stakes votes timeouts out
-      unfolding readyIn
-      ready-no-room h i = rw (← e, h) (begins-early false noRoom i)
+      pub ready-no-room : {b : Begun} → t ≡ false → b ≡ early_begun seat core no_room
+          → Begins (ready_in seat stakes (whole core votes timeouts) roomful r k) roomful r out b stakes votes timeouts out
+      unfolding ready_in
+      ready-no-room h i = rw (← e, h) (begins-early false no_room i)
 
-      module _ {limit : ℕ} (l : limit ≡ limitOf r k) where
-        pub ready-limited : {b : Begun} → t ≡ true → (limit ≡ 0 → ⊥) → b ≡ earlyBegun seat core limit
-            → Begins (readyIn seat stakes (whole core votes timeouts) roomful r k) roomful r out b stakes votes timeouts out
-        unfolding readyIn
+      module _ {limit : ℕ} (l : limit ≡ limit_of r k) where
+        pub ready-limited : {b : Begun} → t ≡ true → (limit ≡ 0 → ⊥) → b ≡ early_begun seat core limit
+            → Begins (ready_in seat stakes (whole core votes timeouts) roomful r k) roomful r out b stakes votes timeouts out
+        unfolding ready_in
         ready-limited h n i = rw (← e, h, ← l, ne_eqb _ _ n) (begins-early true limit i)
 
-        module _ {total need : Stake} (s : startedOf seat stakes votes timeouts ≡ Total total) (q : need.0 ≡ quorumFrom total.0) where
+        module _ {total need : Stake} (s : started_of seat stakes votes timeouts ≡ Total total) (q : need.0 ≡ quorum_from total.0) where
           pub ready-handled : {m : List ℕ} {b : Begun} {x : Handed} {votes' timeouts' out' : List ℕ} → t ≡ true → limit ≡ 0 → m ≡ members_of seat stakes
-              → Handles (handledIn m seat.own.0 (whole core votes timeouts) r k) m seat.own.0 r out x votes' timeouts' out'
-              → b ≡ handedBegun seat need x
-              → Begins (readyIn seat stakes (whole core votes timeouts) roomful r k) roomful r out b stakes votes' timeouts' out'
-          unfolding readyIn
+              → Handles (handled_in m seat.own.0 (whole core votes timeouts) r k) m seat.own.0 r out x votes' timeouts' out'
+              → b ≡ handed_begun seat need x
+              → Begins (ready_in seat stakes (whole core votes timeouts) roomful r k) roomful r out b stakes votes' timeouts' out'
+          unfolding ready_in
           ready-handled {x = x} h n w p i =
               let y = started-ready seat stakes votes timeouts total s in
               let z = rw w at p in
@@ -144,7 +144,7 @@ module _ (seat : Seat) (stakes : List ℕ) (core : Core) (votes timeouts r out :
 
           -- what `handle` asks for
           pub handle-needs : {m : List ℕ} → t ≡ true → limit ≡ 0 → m ≡ members_of seat stakes
-              → Sound m seat.own.0 votes timeouts × (need.0 ≡ quorumOf m) × (limitOf r k ≡ 0) × (firstMost ≤ length out)
+              → Sound m seat.own.0 votes timeouts × (need.0 ≡ quorum_of m) × (limit_of r k ≡ 0) × (first_most ≤ length out)
           handle-needs h n w =
               let y = started-ready seat stakes votes timeouts total s in
               (rw w y.sound, rw w (quorum-total (members_of seat stakes) y.total q), sym l ∙ n, omega (arith, roomy-has slots (length out) (sym e ∙ h)))
@@ -154,72 +154,72 @@ module _ (seat : Seat) (stakes : List ℕ) (core : Core) (votes timeouts r out :
 module _ (m : List ℕ) (own : ℕ) (core : Core) (votes timeouts r out : List ℕ) where
   handed-early : (n : ℕ) → Handles (alone (refused n (whole core votes timeouts))) m own r out (record { answer = n; core = core; at = 0; does = 0 }) votes timeouts out
   handed-early n =
-      record { does = refl; answer = refl; did = did-quiet firstMost core votes timeouts out 0; going = λ (h : ◌≡◌ {A = ℕ} 0 2). absurd (omega arith) }
+      record { does = refl; answer = refl; did = did-quiet first_most core votes timeouts out 0; going = λ (h : ◌≡◌ {A = ℕ} 0 2). absurd (omega arith) }
 
   pub handle-bad : {k : Kind} → k ≡ Kind.Bad
-      → Handles (handledIn m own (whole core votes timeouts) r k) m own r out (record { answer = 16; core = core; at = 0; does = 0 }) votes timeouts out
-  handle-bad e = rw e (handed-early badRecord)
+      → Handles (handled_in m own (whole core votes timeouts) r k) m own r out (record { answer = 16; core = core; at = 0; does = 0 }) votes timeouts out
+  handle-bad e = rw e (handed-early bad_record)
 
   pub handle-start : {k : Kind} → k ≡ Kind.Start
-      → Handles (handledIn m own (whole core votes timeouts) r k) m own r out (record { answer = 34; core = core; at = 0; does = 0 }) votes timeouts out
-  handle-start e = rw e (handed-early startedAgain)
+      → Handles (handled_in m own (whole core votes timeouts) r k) m own r out (record { answer = 34; core = core; at = 0; does = 0 }) votes timeouts out
+  handle-start e = rw e (handed-early started_again)
 
   -- what a handler reached that ends before the table
-  handed-ran : {n : ℕ} {o : Outcome} {x : Ran} {h : Handed} {votes' timeouts' out' : List ℕ} → Reached n o out 0 x votes' timeouts' out' → n ≤ firstMost → h ≡ ranHanded x
+  handed-ran : {n : ℕ} {o : Outcome} {x : Ran} {h : Handed} {votes' timeouts' out' : List ℕ} → Reached n o out 0 x votes' timeouts' out' → n ≤ first_most → h ≡ ran_handed x
       → Handles (alone o) m own r out h votes' timeouts' out'
   handed-ran p l i =
       rw i (record { does = refl; answer = p.answer; did = did_more p.did l; going = λ (h : ◌≡◌ {A = ℕ} 0 2). absurd (omega arith) })
 
-  module _ {k : Kind} {x : Ran} {h : Handed} {votes' timeouts' out' : List ℕ} (i : h ≡ ranHanded x) where
-    pub handle-vote : {v : Vote} → k ≡ Kind.Vote → v ≡ voteOf r → Reached certifyMost (handledVote m own (whole core votes timeouts) v) out 0 x votes' timeouts' out'
-        → Handles (handledIn m own (whole core votes timeouts) r k) m own r out h votes' timeouts' out'
+  module _ {k : Kind} {x : Ran} {h : Handed} {votes' timeouts' out' : List ℕ} (i : h ≡ ran_handed x) where
+    pub handle-vote : {v : Vote} → k ≡ Kind.Vote → v ≡ vote_of r → Reached certify_most (handled_vote m own (whole core votes timeouts) v) out 0 x votes' timeouts' out'
+        → Handles (handled_in m own (whole core votes timeouts) r k) m own r out h votes' timeouts' out'
     handle-vote e f p = rw e (handed-ran (rw f at p) (omega arith) i)
 
-    pub handle-timeout : {t : Timeout} → k ≡ Kind.Timeout → t ≡ timeoutOf r → Reached 1373 (handledTimeout m own (whole core votes timeouts) t r) out 0 x votes' timeouts' out'
-        → Handles (handledIn m own (whole core votes timeouts) r k) m own r out h votes' timeouts' out'
+    pub handle-timeout : {t : Timeout} → k ≡ Kind.Timeout → t ≡ timeout_of r → Reached 1373 (handled_timeout m own (whole core votes timeouts) t r) out 0 x votes' timeouts' out'
+        → Handles (handled_in m own (whole core votes timeouts) r k) m own r out h votes' timeouts' out'
     handle-timeout e f p = rw e (handed-ran (rw f at p) (omega arith) i)
 
-    pub handle-tc : {round : ℕ} → k ≡ Kind.Tc → round ≡ tcRound r tcBody → Reached 715 (handledTC m own (whole core votes timeouts) round r) out 0 x votes' timeouts' out'
-        → Handles (handledIn m own (whole core votes timeouts) r k) m own r out h votes' timeouts' out'
+    pub handle-tc : {round : ℕ} → k ≡ Kind.Tc → round ≡ tc_round r tc_body → Reached 715 (handled_tc m own (whole core votes timeouts) round r) out 0 x votes' timeouts' out'
+        → Handles (handled_in m own (whole core votes timeouts) r k) m own r out h votes' timeouts' out'
     handle-tc e f p = rw e (handed-ran (rw f at p) (omega arith) i)
 
-    pub handle-tick : k ≡ Kind.Tick → Reached 1433 (handledTick m own (whole core votes timeouts)) out 0 x votes' timeouts' out'
-        → Handles (handledIn m own (whole core votes timeouts) r k) m own r out h votes' timeouts' out'
+    pub handle-tick : k ≡ Kind.Tick → Reached 1433 (handled_tick m own (whole core votes timeouts)) out 0 x votes' timeouts' out'
+        → Handles (handled_in m own (whole core votes timeouts) r k) m own r out h votes' timeouts' out'
     handle-tick e p = rw e (handed-ran p (omega arith) i)
 
   pub handle-propose : {k : Kind} {h : Handed} {votes' timeouts' out' : List ℕ} → k ≡ Kind.Propose
-      → Handles (handledIn m own (whole core votes timeouts) r Kind.Propose) m own r out h votes' timeouts' out'
-      → Handles (handledIn m own (whole core votes timeouts) r k) m own r out h votes' timeouts' out'
+      → Handles (handled_in m own (whole core votes timeouts) r Kind.Propose) m own r out h votes' timeouts' out'
+      → Handles (handled_in m own (whole core votes timeouts) r k) m own r out h votes' timeouts' out'
   handle-propose e p = rw e p
 
 -- ---- the last part
 
 module _ (m : List ℕ) (own : ℕ) (core : Core) (votes timeouts : List ℕ) (b : Block) (first : ℕ) (seat : Seat) (does answer last : ℕ) where
   pub finish-votes : {at : ℕ} {out votes' timeouts' out' : List ℕ} {x : Stepped} → does ≡ 2 → answer ≡ 0
-      → Finishes (voting m own b (whole (withCommitted core last) votes timeouts)) votingMost seat out at x votes' timeouts' out'
-      → Finishes (finishedOf m own (whole core votes timeouts) does first answer last b) votingMost seat out at x votes' timeouts' out'
-  unfolding finishedOf
+      → Finishes (voting m own b (whole (with_committed core last) votes timeouts)) voting_most seat out at x votes' timeouts' out'
+      → Finishes (finished_of m own (whole core votes timeouts) does first answer last b) voting_most seat out at x votes' timeouts' out'
+  unfolding finished_of
   finish-votes e f p = rw (e, f) p
 
   pub finish-refused : {at : ℕ} {out : List ℕ} → does ≡ 2 → (answer ≡ 0 → ⊥)
-      → Finishes (finishedOf m own (whole core votes timeouts) does first answer last b) votingMost seat out at
-      (record { answer = answer; seat = seat; core = withCommitted core last; written = at }) votes timeouts out
-  unfolding finishedOf
+      → Finishes (finished_of m own (whole core votes timeouts) does first answer last b) voting_most seat out at
+      (record { answer = answer; seat = seat; core = with_committed core last; written = at }) votes timeouts out
+  unfolding finished_of
   finish-refused {at} {out} e f =
-      rw (e, ne_eqb _ _ f) (record { answer = refl; sits = refl; did = did-quiet votingMost (withCommitted core last) votes timeouts out at })
+      rw (e, ne_eqb _ _ f) (record { answer = refl; sits = refl; did = did-quiet voting_most (with_committed core last) votes timeouts out at })
 
   pub finish-ended : {at : ℕ} {out : List ℕ} → (does ≡ 2 → ⊥)
-      → Finishes (finishedOf m own (whole core votes timeouts) does first answer last b) votingMost seat out at
+      → Finishes (finished_of m own (whole core votes timeouts) does first answer last b) voting_most seat out at
       (record { answer = first; seat = seat; core = core; written = at }) votes timeouts out
-  unfolding finishedOf
-  finish-ended {at} {out} e = rw (ne_eqb _ _ e) (record { answer = refl; sits = refl; did = did-quiet votingMost core votes timeouts out at })
+  unfolding finished_of
+  finish-ended {at} {out} e = rw (ne_eqb _ _ e) (record { answer = refl; sits = refl; did = did-quiet voting_most core votes timeouts out at })
 
 -- ---- a proposal
 
-module _ (m : List ℕ) (own : ℕ) (core : Core) (votes timeouts r out : List ℕ) {b : Block} {payload : ℕ} (f : b ≡ block_of r) (g : payload ≡ payloadOf r)
-    {p : Proposed} {votes' timeouts' out' : List ℕ} (x : Proposes 8 (proposalOf m (whole core votes timeouts) b r payload) out 0 p votes' timeouts' out') where
+module _ (m : List ℕ) (own : ℕ) (core : Core) (votes timeouts r out : List ℕ) {b : Block} {payload : ℕ} (f : b ≡ block_of r) (g : payload ≡ payload_of r)
+    {p : Proposed} {votes' timeouts' out' : List ℕ} (x : Proposes 8 (proposal_of m (whole core votes timeouts) b r payload) out 0 p votes' timeouts' out') where
   pub propose-ends : p.goes_on ≡ false
-      → Handles (handledIn m own (whole core votes timeouts) r Kind.Propose) m own r out (record { answer = p.answer; core = p.core; at = p.at; does = 0 }) votes' timeouts' out'
+      → Handles (handled_in m own (whole core votes timeouts) r Kind.Propose) m own r out (record { answer = p.answer; core = p.core; at = p.at; does = 0 }) votes' timeouts' out'
   propose-ends h =
       let y = rw (f, g) at x in
       record {
@@ -229,8 +229,8 @@ module _ (m : List ℕ) (own : ℕ) (core : Core) (votes timeouts r out : List �
         going = λ (z : ◌≡◌ {A = ℕ} 0 2). absurd (omega arith);
       }
 
-  pub propose-goes : p.goes_on ≡ true → Sound m own votes timeouts → limitOf r Kind.Propose ≡ 0
-      → Handles (handledIn m own (whole core votes timeouts) r Kind.Propose) m own r out (record { answer = p.answer; core = p.core; at = p.at; does = 2 }) votes' timeouts' out'
+  pub propose-goes : p.goes_on ≡ true → Sound m own votes timeouts → limit_of r Kind.Propose ≡ 0
+      → Handles (handled_in m own (whole core votes timeouts) r Kind.Propose) m own r out (record { answer = p.answer; core = p.core; at = p.at; does = 2 }) votes' timeouts' out'
   propose-goes h s l =
       let y = rw (f, g) at x in
       record {
@@ -242,60 +242,60 @@ module _ (m : List ℕ) (own : ℕ) (core : Core) (votes timeouts r out : List �
             record {
               sound =
                   taken-sound core (block_of r) _ s
-                  (y.did.state ∙ ap (λ (o : Outcome). o.left.state) (proposal-goes-on m (whole core votes timeouts) (block_of r) r (payloadOf r) (sym y.goes ∙ h)));
+                  (y.did.state ∙ ap (λ (o : Outcome). o.left.state) (proposal-goes-on m (whole core votes timeouts) (block_of r) r (payload_of r) (sym y.goes ∙ h)));
               round = block-round-le r l;
-              qcRound = block-qc-round-le r l;
-              tcRound = block-tc-round-le r l;
+              qc_round = block-qc-round-le r l;
+              tc_round = block-tc-round-le r l;
               short = omega (arith, y.did.bytes.room);
             };
       }
 
 -- a block that comes back
 module _ (m : List ℕ) (own : ℕ) (core : Core) (votes timeouts r out : List ℕ) where
-  pub handle-loopback : {k : Kind} → k ≡ Kind.Loopback → Sound m own votes timeouts → limitOf r k ≡ 0
-      → Handles (handledIn m own (whole core votes timeouts) r k) m own r out (record { answer = 0; core = core; at = 0; does = 2 }) votes timeouts out
+  pub handle-loopback : {k : Kind} → k ≡ Kind.Loopback → Sound m own votes timeouts → limit_of r k ≡ 0
+      → Handles (handled_in m own (whole core votes timeouts) r k) m own r out (record { answer = 0; core = core; at = 0; does = 2 }) votes timeouts out
   handle-loopback e s l =
       let n = loopback-limit r (rw e at l) in
       rw e
       record {
         does = refl;
         answer = refl;
-        did = did-quiet firstMost core votes timeouts out 0;
+        did = did-quiet first_most core votes timeouts out 0;
         going =
             λ (z : ◌≡◌ {A = ℕ} 2 2).
-            record { sound = s; round = block-round-le r n; qcRound = block-qc-round-le r n; tcRound = block-tc-round-le r n; short = omega arith };
+            record { sound = s; round = block-round-le r n; qc_round = block-qc-round-le r n; tc_round = block-tc-round-le r n; short = omega arith };
       }
 
 -- ---- START, once its setup is good
 
 -- TIMER RESET, and what the own place is asked to make
-pub announce-wrote : (m : List ℕ) (own : ℕ) (core : Core) {out out₁ out₂ : List ℕ} {a next : ℕ} → Put out 0 4 (enc timerReset) out₁ a
-    → Wrote makeSize (makeOf m own core) out₁ a out₂ next → Wrote announcedMost (announced m own core) out 0 out₂ next
+pub announce-wrote : (m : List ℕ) (own : ℕ) (core : Core) {out out₁ out₂ : List ℕ} {a next : ℕ} → Put out 0 4 (enc timer_reset) out₁ a
+    → Wrote make_size (make_of m own core) out₁ a out₂ next → Wrote announced_most (announced m own core) out 0 out₂ next
 unfolding announced
-announce-wrote m own core p w = wrote_then (wrote_one timerReset p) w
+announce-wrote m own core p w = wrote_then (wrote_one timer_reset p) w
 
 -- the new committee lies within the stakes
 pub boot-fits : (r stakes votes timeouts stakes' votes' timeouts' : List ℕ) (out : ℕ) {total : Stake} {seat : Seat}
-    → Boots r (length stakes) (length votes) (length timeouts) out total → seat ≡ newSeat r → Filled r stakes votes timeouts stakes' votes' timeouts'
+    → Boots r (length stakes) (length votes) (length timeouts) out total → seat ≡ new_seat r → Filled r stakes votes timeouts stakes' votes' timeouts'
     → seat.count ≤ length stakes'
 boot-fits r stakes votes timeouts stakes' votes' timeouts' out {total} {seat} k e f =
     let z = sized-has (length stakes) (length votes) (length timeouts) k.sizes in
     let n : length stakes' ≡ length stakes = ap length f.members ∙ length-loaded (length stakes) (drop 2 r) in
-    let c : seat.count ≡ memberCount (drop 2 r) = ap (λ (x : Seat). x.count) e in
+    let c : seat.count ≡ member_count (drop 2 r) = ap (λ (x : Seat). x.count) e in
     omega (arith, z.members, n, c, (start_of_lem (drop 2 r) total k.setup).few)
 
 module _ (seat : Seat) (stakes : List ℕ) (core : Core) (votes timeouts r out : List ℕ) (total : Stake) where
   pub boots : {stakes' votes' timeouts' out' : List ℕ} {at : ℕ} {taken : Seat} {fresh : Core}
-      → Boots r (length stakes) (length votes) (length timeouts) (length out) total → taken ≡ newSeat r
-      → Filled r stakes votes timeouts stakes' votes' timeouts' → fresh ≡ newCore
-      → Wrote announcedMost (announced (take (taken.count - 0) (drop 0 stakes')) taken.own.0 fresh) out 0 out' at
-      → Begins (bootedBy seat stakes (whole core votes timeouts) r (Total total)) true r out
+      → Boots r (length stakes) (length votes) (length timeouts) (length out) total → taken ≡ new_seat r
+      → Filled r stakes votes timeouts stakes' votes' timeouts' → fresh ≡ new_core
+      → Wrote announced_most (announced (take (taken.count - 0) (drop 0 stakes')) taken.own.0 fresh) out 0 out' at
+      → Begins (booted_by seat stakes (whole core votes timeouts) r (Total total)) true r out
       (record { seat = taken; answer = 0; core = fresh; at = at; does = 1; need = record { 0 = 0 } }) stakes' votes' timeouts' out'
-  unfolding newStakes
+  unfolding new_stakes
   boots {stakes' = stakes'} {taken = taken} b e f n w =
       let k = sized-has (length stakes) (length votes) (length timeouts) b.sizes in
-      let held : stakes' ≡ newStakes r = rw (f.members, k.members) in
-      let same : take (taken.count - 0) (drop 0 stakes') ≡ members_of (newSeat r) (newStakes r) = members-part taken stakes' ∙ rw (e, held) in
+      let held : stakes' ≡ new_stakes r = rw (f.members, k.members) in
+      let same : take (taken.count - 0) (drop 0 stakes') ≡ members_of (new_seat r) (new_stakes r) = members-part taken stakes' ∙ rw (e, held) in
       record {
         does = refl;
         sits = e;
@@ -309,57 +309,57 @@ module _ (seat : Seat) (stakes : List ℕ) (core : Core) (votes timeouts r out :
 -- ---- what a record of START meets
 
 module _ (slots room stakes votes timeouts : ℕ) (r : List ℕ) {t : Bool} (e : t ≡ roomy slots room) where
-  pub booting-roomless : t ≡ false → NoRoom ≡ bootingOf (roomy slots room) (sized stakes votes timeouts) (setupAt (drop 2 r))
-  unfolding bootingOf
+  pub booting-roomless : t ≡ false → NoRoom ≡ booting_of (roomy slots room) (sized stakes votes timeouts) (setup_at (drop 2 r))
+  unfolding booting_of
   booting-roomless h = rw (← e, h)
 
   module _ (y : t ≡ true) {size : Bool} (f : size ≡ sized stakes votes timeouts) where
-    pub booting-sizeless : size ≡ false → NoRoom ≡ bootingOf (roomy slots room) (sized stakes votes timeouts) (setupAt (drop 2 r))
-    unfolding bootingOf
+    pub booting-sizeless : size ≡ false → NoRoom ≡ booting_of (roomy slots room) (sized stakes votes timeouts) (setup_at (drop 2 r))
+    unfolding booting_of
     booting-sizeless h = rw (← e, y, ← f, h)
 
-    module _ (z : size ≡ true) {body : List ℕ} (c : body ≡ drop 2 r) {st : Setup} (d : st ≡ setupAt body) where
-      pub booting-bad : st ≡ Bad → BadSetup ≡ bootingOf (roomy slots room) (sized stakes votes timeouts) (setupAt (drop 2 r))
-      unfolding bootingOf
+    module _ (z : size ≡ true) {body : List ℕ} (c : body ≡ drop 2 r) {st : Setup} (d : st ≡ setup_at body) where
+      pub booting-bad : st ≡ Bad → BadSetup ≡ booting_of (roomy slots room) (sized stakes votes timeouts) (setup_at (drop 2 r))
+      unfolding booting_of
       booting-bad h = rw (← e, y, ← f, z, ← c, ← d, h)
 
-      pub booting-good : {total : Stake} → st ≡ Total total → Good total ≡ bootingOf (roomy slots room) (sized stakes votes timeouts) (setupAt (drop 2 r))
-      unfolding bootingOf
+      pub booting-good : {total : Stake} → st ≡ Total total → Good total ≡ booting_of (roomy slots room) (sized stakes votes timeouts) (setup_at (drop 2 r))
+      unfolding booting_of
       booting-good h = rw (← e, y, ← f, z, ← c, ← d, h)
 
 -- ---- START
 
 module _ (seat : Seat) (stakes : List ℕ) (core : Core) (votes timeouts r out : List ℕ) where
-  abbrev bootedAs : Booting → Stage
-  bootedAs NoRoom = ended seat stakes (refused noRoom (whole core votes timeouts))
-  bootedAs BadSetup = ended seat stakes (refused badSetup (whole core votes timeouts))
-  bootedAs (Good t) = bootedBy seat stakes (whole core votes timeouts) r (Total t)
+  abbrev booted_as : Booting → Stage
+  booted_as NoRoom = ended seat stakes (refused no_room (whole core votes timeouts))
+  booted_as BadSetup = ended seat stakes (refused bad_setup (whole core votes timeouts))
+  booted_as (Good t) = booted_by seat stakes (whole core votes timeouts) r (Total t)
 
   booted-as : (room size : Bool) (st : Setup)
-      → cond room (cond size (bootedBy seat stakes (whole core votes timeouts) r st) (ended seat stakes (refused noRoom (whole core votes timeouts)))) (ended seat stakes (refused noRoom (whole core votes timeouts)))
-      ≡ bootedAs (bootingOf room size st)
-  unfolding bootingOf
+      → cond room (cond size (booted_by seat stakes (whole core votes timeouts) r st) (ended seat stakes (refused no_room (whole core votes timeouts)))) (ended seat stakes (refused no_room (whole core votes timeouts)))
+      ≡ booted_as (booting_of room size st)
+  unfolding booting_of
   booted-as false size st = refl
   booted-as true false st = refl
   booted-as true true Bad = refl
   booted-as true true (Total t) = refl
 
-  module _ (slots : ℕ) {k : Booting} (e : k ≡ bootingOf (roomy slots (length out)) (sized (length stakes) (length votes) (length timeouts)) (setupAt (drop 2 r))) where
-    started-as : startedIn seat stakes (whole core votes timeouts) (roomy slots (length out)) r ≡ bootedAs k
-    unfolding startedIn
-    started-as = booted-as (roomy slots (length out)) (sized (length stakes) (length votes) (length timeouts)) (setupAt (drop 2 r)) ∙ ap bootedAs (sym e)
+  module _ (slots : ℕ) {k : Booting} (e : k ≡ booting_of (roomy slots (length out)) (sized (length stakes) (length votes) (length timeouts)) (setup_at (drop 2 r))) where
+    started-as : started_in seat stakes (whole core votes timeouts) (roomy slots (length out)) r ≡ booted_as k
+    unfolding started_in
+    started-as = booted-as (roomy slots (length out)) (sized (length stakes) (length votes) (length timeouts)) (setup_at (drop 2 r)) ∙ ap booted_as (sym e)
 
-    pub start-no-room : {b : Begun} → k ≡ NoRoom → b ≡ earlyBegun seat core noRoom
-        → Begins (startedIn seat stakes (whole core votes timeouts) (roomy slots (length out)) r) (roomy slots (length out)) r out b stakes votes timeouts out
-    start-no-room h i = rw (started-as, h) (begins-early seat stakes core votes timeouts r out (roomy slots (length out)) noRoom i)
+    pub start-no-room : {b : Begun} → k ≡ NoRoom → b ≡ early_begun seat core no_room
+        → Begins (started_in seat stakes (whole core votes timeouts) (roomy slots (length out)) r) (roomy slots (length out)) r out b stakes votes timeouts out
+    start-no-room h i = rw (started-as, h) (begins-early seat stakes core votes timeouts r out (roomy slots (length out)) no_room i)
 
-    pub start-bad-setup : {b : Begun} → k ≡ BadSetup → b ≡ earlyBegun seat core badSetup
-        → Begins (startedIn seat stakes (whole core votes timeouts) (roomy slots (length out)) r) (roomy slots (length out)) r out b stakes votes timeouts out
-    start-bad-setup h i = rw (started-as, h) (begins-early seat stakes core votes timeouts r out (roomy slots (length out)) badSetup i)
+    pub start-bad-setup : {b : Begun} → k ≡ BadSetup → b ≡ early_begun seat core bad_setup
+        → Begins (started_in seat stakes (whole core votes timeouts) (roomy slots (length out)) r) (roomy slots (length out)) r out b stakes votes timeouts out
+    start-bad-setup h i = rw (started-as, h) (begins-early seat stakes core votes timeouts r out (roomy slots (length out)) bad_setup i)
 
     -- what `boot` asks for
-    booted-has : (room size : Bool) (st : Setup) (t : Stake) → bootingOf room size st ≡ Good t → (room ≡ true) × (size ≡ true) × (st ≡ Total t)
-    unfolding bootingOf
+    booted-has : (room size : Bool) (st : Setup) (t : Stake) → booting_of room size st ≡ Good t → (room ≡ true) × (size ≡ true) × (st ≡ Total t)
+    unfolding booting_of
     booted-has true true (Total u) t h = (refl, refl, ap Total (let z : u ≡ t = cc in z))
     booted-has true true Bad t h = absurd (let z : ◌≡◌ {A = ℕ} 0 1 = cc in omega arith)
     booted-has true false st t h = absurd (let z : ◌≡◌ {A = ℕ} 0 1 = cc in omega arith)
@@ -367,69 +367,69 @@ module _ (seat : Seat) (stakes : List ℕ) (core : Core) (votes timeouts r out :
 
     pub start_has : {t : Stake} → k ≡ Good t → (roomy slots (length out) ≡ true) × Boots r (length stakes) (length votes) (length timeouts) (length out) t
     start_has {t} h =
-        let p = booted-has (roomy slots (length out)) (sized (length stakes) (length votes) (length timeouts)) (setupAt (drop 2 r)) t (sym e ∙ h) in
+        let p = booted-has (roomy slots (length out)) (sized (length stakes) (length votes) (length timeouts)) (setup_at (drop 2 r)) t (sym e ∙ h) in
         (p.0, record { sizes = p.1; setup = p.2; room = omega (arith, roomy-has slots (length out) p.0) })
 
     pub boot-needs : {t : Stake} → k ≡ Good t → Boots r (length stakes) (length votes) (length timeouts) (length out) t
     boot-needs h = (start_has h).1
 
     pub start-boots : {t : Stake} {b : Begun} {stakes' votes' timeouts' out' : List ℕ} → k ≡ Good t
-        → Begins (bootedBy seat stakes (whole core votes timeouts) r (Total t)) true r out b stakes' votes' timeouts' out'
-        → Begins (startedIn seat stakes (whole core votes timeouts) (roomy slots (length out)) r) (roomy slots (length out)) r out b stakes' votes' timeouts' out'
+        → Begins (booted_by seat stakes (whole core votes timeouts) r (Total t)) true r out b stakes' votes' timeouts' out'
+        → Begins (started_in seat stakes (whole core votes timeouts) (roomy slots (length out)) r) (roomy slots (length out)) r out b stakes' votes' timeouts' out'
     start-boots h p = rw (started-as, h, (start_has h).0) p
 
 -- ---- START's parts
 
-pub seat-new : (r : List ℕ) {body : List ℕ} {count : ℕ} {own : Place} → body ≡ drop 2 r → count ≡ memberCount body → own.0 ≡ ownPlace body
-    → ◌≡◌ {A = Seat} (record { count = count; own = own }) (newSeat r)
+pub seat-new : (r : List ℕ) {body : List ℕ} {count : ℕ} {own : Place} → body ≡ drop 2 r → count ≡ member_count body → own.0 ≡ own_place body
+    → ◌≡◌ {A = Seat} (record { count = count; own = own }) (new_seat r)
 seat-new r {body} {count} {own} b c o =
-    ap (λ (n : ℕ). record { count = n; own = own }) (c ∙ ap memberCount b)
-    ∙ ap (λ (p : ℕ). record { count = memberCount (drop 2 r); own = record { 0 = p } }) (o ∙ ap ownPlace b)
+    ap (λ (n : ℕ). record { count = n; own = own }) (c ∙ ap member_count b)
+    ∙ ap (λ (p : ℕ). record { count = member_count (drop 2 r); own = record { 0 = p } }) (o ∙ ap own_place b)
 
-pub filled : (r stakes votes timeouts : List ℕ) {body stakes' votes' timeouts' : List ℕ} → body ≡ drop 2 r → stakes' ≡ loadedStakes (length stakes) body
+pub filled : (r stakes votes timeouts : List ℕ) {body stakes' votes' timeouts' : List ℕ} → body ≡ drop 2 r → stakes' ≡ loaded_stakes (length stakes) body
     → votes' ≡ zeros (length votes) → timeouts' ≡ zeros (length timeouts) → Filled r stakes votes timeouts stakes' votes' timeouts'
 filled r stakes votes timeouts b s v t = record { members = rw (← b) s; no-votes = v; no-timeouts = t }
 
 -- ---- what the handlers ask for
 
-module _ {m votes timeouts : List ℕ} {own need : ℕ} (r : List ℕ) (out : ℕ) (s : Sound m own votes timeouts) (q : need ≡ quorumOf m) (h : firstMost ≤ out) where
-  pub propose-needs : {b : Block} → b ≡ block_of r → limitOf r Kind.Propose ≡ 0
-      → (need ≡ quorumOf m) × (b.qc_round.0 ≤ roundMax) × (b.tc_round.0 ≤ roundMax) × (length votes ≡ votesLength) × (length timeouts ≡ timeoutsLength) × (8 ≤ out)
+module _ {m votes timeouts : List ℕ} {own need : ℕ} (r : List ℕ) (out : ℕ) (s : Sound m own votes timeouts) (q : need ≡ quorum_of m) (h : first_most ≤ out) where
+  pub propose-needs : {b : Block} → b ≡ block_of r → limit_of r Kind.Propose ≡ 0
+      → (need ≡ quorum_of m) × (b.qc_round.0 ≤ round_max) × (b.tc_round.0 ≤ round_max) × (length votes ≡ votes_length) × (length timeouts ≡ timeouts_length) × (8 ≤ out)
   propose-needs e l = (q, rw e (block-qc-round-le r l), rw e (block-tc-round-le r l), s.long, s.wide, omega arith)
 
-  module _ {k : Kind} (l : limitOf r k ≡ 0) where
-    pub vote-needs : {v : Vote} → k ≡ Kind.Vote → v ≡ voteOf r → Sound m own votes timeouts × (need ≡ quorumOf m) × (v.round.0 ≤ roundMax) × (certifyMost ≤ out)
+  module _ {k : Kind} (l : limit_of r k ≡ 0) where
+    pub vote-needs : {v : Vote} → k ≡ Kind.Vote → v ≡ vote_of r → Sound m own votes timeouts × (need ≡ quorum_of m) × (v.round.0 ≤ round_max) × (certify_most ≤ out)
     vote-needs e f = (s, q, rw f (vote-round-le r (rw e at l)), omega arith)
 
-    pub timeout-needs : {t : Timeout} → k ≡ Kind.Timeout → t ≡ timeoutOf r
-        → Sound m own votes timeouts × (need ≡ quorumOf m) × (t.round.0 ≤ roundMax) × (t.qc_round.0 ≤ roundMax) × (1373 ≤ out)
+    pub timeout-needs : {t : Timeout} → k ≡ Kind.Timeout → t ≡ timeout_of r
+        → Sound m own votes timeouts × (need ≡ quorum_of m) × (t.round.0 ≤ round_max) × (t.qc_round.0 ≤ round_max) × (1373 ≤ out)
     timeout-needs e f = (s, q, rw f (timeout-round-le r (rw e at l)), rw f (timeout-qc-round-le r (rw e at l)), omega arith)
 
-    pub tc-needs : {round : ℕ} → k ≡ Kind.Tc → round ≡ tcRound r tcBody → Sound m own votes timeouts × (need ≡ quorumOf m) × (round ≤ roundMax) × (715 ≤ out)
+    pub tc-needs : {round : ℕ} → k ≡ Kind.Tc → round ≡ tc_round r tc_body → Sound m own votes timeouts × (need ≡ quorum_of m) × (round ≤ round_max) × (715 ≤ out)
     tc-needs e f = (s, q, rw f (tc-event-round-le r (rw e at l)), omega arith)
 
-    pub propose-limit : k ≡ Kind.Propose → Sound m own votes timeouts × (need ≡ quorumOf m) × (limitOf r Kind.Propose ≡ 0) × (firstMost ≤ out)
+    pub propose-limit : k ≡ Kind.Propose → Sound m own votes timeouts × (need ≡ quorum_of m) × (limit_of r Kind.Propose ≡ 0) × (first_most ≤ out)
     propose-limit e = (s, q, rw e at l, h)
 
 -- ---- the vote for a block that the table took
 
 module _ (b : Begun) (r stakes : List ℕ) {votes timeouts : List ℕ} (o : Ongoing b r stakes votes timeouts) {k : Block} (e : k ≡ block_of r) where
-  pub conclude-needs : (at : ℕ) {out : ℕ} → at + votingMost ≤ out
-      → Sound (take (b.seat.count - 0) (drop 0 stakes)) b.seat.own.0 votes timeouts × (b.need.0 ≡ quorumOf (take (b.seat.count - 0) (drop 0 stakes)))
-      × (k.round.0 ≤ roundMax) × (k.qc_round.0 ≤ roundMax) × (k.tc_round.0 ≤ roundMax) × (at + votingMost ≤ out)
+  pub conclude-needs : (at : ℕ) {out : ℕ} → at + voting_most ≤ out
+      → Sound (take (b.seat.count - 0) (drop 0 stakes)) b.seat.own.0 votes timeouts × (b.need.0 ≡ quorum_of (take (b.seat.count - 0) (drop 0 stakes)))
+      × (k.round.0 ≤ round_max) × (k.qc_round.0 ≤ round_max) × (k.tc_round.0 ≤ round_max) × (at + voting_most ≤ out)
   conclude-needs at h =
-      (rw (members-part b.seat stakes) o.going.sound, rw (members-part b.seat stakes) o.need, rw e o.going.round, rw e o.going.qcRound, rw e o.going.tcRound, h)
+      (rw (members-part b.seat stakes) o.going.sound, rw (members-part b.seat stakes) o.need, rw e o.going.round, rw e o.going.qc_round, rw e o.going.tc_round, h)
 
   pub conclude-fits : b.seat.count ≤ length stakes
   conclude-fits = o.few
 
   pub concludes : (core : Core) {at : ℕ} {out votes' timeouts' out' : List ℕ} {x : Ran}
-      → Reached votingMost (voting (take (b.seat.count - 0) (drop 0 stakes)) b.seat.own.0 k (whole core votes timeouts)) out at x votes' timeouts' out'
-      → Finishes (voting (members_of b.seat stakes) b.seat.own.0 (block_of r) (whole core votes timeouts)) votingMost b.seat out at
+      → Reached voting_most (voting (take (b.seat.count - 0) (drop 0 stakes)) b.seat.own.0 k (whole core votes timeouts)) out at x votes' timeouts' out'
+      → Finishes (voting (members_of b.seat stakes) b.seat.own.0 (block_of r) (whole core votes timeouts)) voting_most b.seat out at
       (record { answer = x.answer; seat = b.seat; core = x.core; written = x.at }) votes' timeouts' out'
   concludes core p = let q = rw (members-part b.seat stakes, e) at p in record { answer = q.answer; sits = refl; did = q.did }
 
 -- what `ready` asks for
-pub ready-needs : (seat : Seat) (stakes votes timeouts : List ℕ) {st : Setup} {t : Stake} → st ≡ startedOf seat stakes votes timeouts → st ≡ Total t
-    → startedOf seat stakes votes timeouts ≡ Total t
+pub ready-needs : (seat : Seat) (stakes votes timeouts : List ℕ) {st : Setup} {t : Stake} → st ≡ started_of seat stakes votes timeouts → st ≡ Total t
+    → started_of seat stakes votes timeouts ≡ Total t
 ready-needs seat stakes votes timeouts e h = sym e ∙ h

@@ -5,17 +5,17 @@ use mathlib.Core.List.{List, [], ◌∷◌, ◌++◌, append-nil}
 use mathlib.Core.Path.{◌≡◌, refl, sym, ◌∙◌, ap}
 use lib.Dec.{eqb}
 use lib.ListN.{length, drop}
-use Rattle.certificates.specs.Start.{setupAt}
+use Rattle.certificates.specs.Start.{setup_at}
 use Rattle.certificates.specs.declared.config.Setup.{Setup}
 use Rattle.certificates.specs.declared.config.Setup.TheVariants.{Bad, Total}
 use Rattle.trace.specs.declared.events.Kind.{Kind}
 use Rattle.trace.specs.declared.events.Block.{Block}
 use Rattle.trace.specs.Form.{form_of}
-use Rattle.trace.specs.Limits.{limitOf}
+use Rattle.trace.specs.Limits.{limit_of}
 use Rattle.trace.specs.Fields.{block_of}
-use Rattle.certificates.specs.Error.{badRecord, noRoom, notStarted}
+use Rattle.certificates.specs.Error.{bad_record, no_room, not_started}
 use Rattle.outputs.specs.Records.{Rec}
-use Rattle.moves.specs.State.{State, withCore, withCommitted}
+use Rattle.moves.specs.State.{State, with_core, with_committed}
 use Rattle.moves.specs.Outcome.{Step, Outcome, quiet, done, after, refused}
 use Rattle.handlers.specs.Votes.{voting}
 use Rattle.handlers.specs.Proposals.{Proposal}
@@ -24,10 +24,10 @@ use Rattle.synchronizer.specs.Table.{cleared}
 use Rattle.synchronizer.specs.Settle.{Settlement, settled_of}
 use Rattle.synchronizer.proofs.SettleLaws.{settled-nothing, settled-clear}
 use Rattle.replica.specs.declared.started.Seat.{Seat}
-use Rattle.replica.specs.Started.{members_of, startedOf, sized, roomy}
-use Rattle.replica.specs.Blocks.{settledFor, settledStep, afterSettled, processed, processedTable, goingOn, goingOnTable}
-use Rattle.replica.specs.Step.{World, Result, refusedIn, in_world, newSeat, newStakes, begun, begunBy, started, sizedIn, onStart, onOther, onKind, handled, stepped}
-use Rattle.replica.specs.Stages.{Stage, Handled, ended, byProposal, handledIn, inSeat, readyIn, bootedBy, startedIn, isStart, isBad, bySetup, stagedOf, finishedOf, stageWork, followed, concluded, together}
+use Rattle.replica.specs.Started.{members_of, started_of, sized, roomy}
+use Rattle.replica.specs.Blocks.{settled_for, settled_step, after_settled, processed, processed_table, going_on, going_on_table}
+use Rattle.replica.specs.Step.{World, Result, refused_in, in_world, new_seat, new_stakes, begun, begun_by, started, sized_in, on_start, on_other, on_kind, handled, stepped}
+use Rattle.replica.specs.Stages.{Stage, Handled, ended, by_proposal, handled_in, in_seat, ready_in, booted_by, started_in, is_start, is_bad, by_setup, staged_of, finished_of, stage_work, followed, concluded, together}
 
 -- what is left of a world
 abbrev left : Seat → List ℕ → List Slot → Outcome → Result
@@ -48,47 +48,47 @@ nothing-more seat stakes o t =
     (append-nil o.left.outs)
 
 pub together-ended : (seat : Seat) (stakes : List ℕ) (o : Outcome) (t : List Slot) (k : Block) → together (ended seat stakes o) t k ≡ left seat stakes t o
-unfolding together stageWork finishedOf
+unfolding together stage_work finished_of
 together-ended seat stakes o t k =
-    ap (concluded (ended seat stakes o) k) (settled-nothing t (stageWork (ended seat stakes o) k) refl) ∙ nothing-more seat stakes o t
+    ap (concluded (ended seat stakes o) k) (settled-nothing t (stage_work (ended seat stakes o) k) refl) ∙ nothing-more seat stakes o t
 
 pub together-cleared : (seat : Seat) (stakes : List ℕ) (o : Outcome) (t : List Slot) (k : Block)
     → together (record { does = 1; seat = seat; stakes = stakes; out = o }) t k ≡ left seat stakes (cleared t) o
-unfolding together stageWork finishedOf
+unfolding together stage_work finished_of
 together-cleared seat stakes o t k =
     ap (concluded (record { does = 1; seat = seat; stakes = stakes; out = o }) k)
-    (settled-clear t (stageWork (record { does = 1; seat = seat; stakes = stakes; out = o }) k) refl)
+    (settled-clear t (stage_work (record { does = 1; seat = seat; stakes = stakes; out = o }) k) refl)
     ∙ nothing-more seat stakes o (cleared t)
 
 -- the vote follows, or what the table answered stays
 module _ (seat : Seat) (stakes : List ℕ) (o : Outcome) (k : Block) where
   abbrev voted : State → Settlement → Outcome
-  voted s p = voting (members_of seat stakes) seat.own.0 k (withCore s (withCommitted s.core p.last))
+  voted s p = voting (members_of seat stakes) seat.own.0 k (with_core s (with_committed s.core p.last))
 
   abbrev kept : Settlement → Bool → Result
   kept p true = followed (record { does = 2; seat = seat; stakes = stakes; out = o }) p (voted o.left.state p)
   kept p false =
       followed (record { does = 2; seat = seat; stakes = stakes; out = o }) p
-      (refused p.answer (withCore o.left.state (withCommitted o.left.state.core p.last)))
+      (refused p.answer (with_core o.left.state (with_committed o.left.state.core p.last)))
 
   either_way : (p : Settlement) (zero : Bool)
       → followed (record { does = 2; seat = seat; stakes = stakes; out = o }) p
-      (cond zero (voted o.left.state p) (refused p.answer (withCore o.left.state (withCommitted o.left.state.core p.last))))
+      (cond zero (voted o.left.state p) (refused p.answer (with_core o.left.state (with_committed o.left.state.core p.last))))
       ≡ left seat stakes p.table
-      (after o.left (λ (s : State). cond zero (after (settledStep s p) (voting (members_of seat stakes) seat.own.0 k)) (done p.answer (settledStep s p))))
+      (after o.left (λ (s : State). cond zero (after (settled_step s p) (voting (members_of seat stakes) seat.own.0 k)) (done p.answer (settled_step s p))))
   either_way p true = refl
   either_way p false =
       ap (λ (xs : List Rec). record {
         answer = p.answer;
-        world = record { seat = seat; stakes = stakes; state = withCore o.left.state (withCommitted o.left.state.core p.last); table = p.table };
+        world = record { seat = seat; stakes = stakes; state = with_core o.left.state (with_committed o.left.state.core p.last); table = p.table };
         outs = o.left.outs ++ xs;
       }) (append-nil p.outs)
 
   pub together-block : (t : List Slot)
       → together (record { does = 2; seat = seat; stakes = stakes; out = o }) t k
-      ≡ left seat stakes (processedTable t k o.left.state) (after o.left (processed (members_of seat stakes) seat.own.0 t k))
-  unfolding together stageWork finishedOf processed processedTable afterSettled settledFor
-  together-block t = either_way (settledFor o.left.state t k) (eqb (settledFor o.left.state t k).answer 0)
+      ≡ left seat stakes (processed_table t k o.left.state) (after o.left (processed (members_of seat stakes) seat.own.0 t k))
+  unfolding together stage_work finished_of processed processed_table after_settled settled_for
+  together-block t = either_way (settled_for o.left.state t k) (eqb (settled_for o.left.state t k).answer 0)
 
 -- ---- by the kind of the record
 
@@ -103,14 +103,14 @@ module _ (w : World) (r : List ℕ) where
   m = members_of w.seat w.stakes
 
   -- a proposal that goes on to the table, or not
-  together-proposal : (p : Proposal) (goes : Bool) → p.goesOn ≡ goes
-      → together (inSeat seat stakes (byProposal p)) w.table (block_of r)
-      ≡ in_world w (goingOnTable w.table (block_of r) p) (goingOn m seat.own.0 w.table (block_of r) p)
-  unfolding goingOn goingOnTable
+  together-proposal : (p : Proposal) (goes : Bool) → p.goes_on ≡ goes
+      → together (in_seat seat stakes (by_proposal p)) w.table (block_of r)
+      ≡ in_world w (going_on_table w.table (block_of r) p) (going_on m seat.own.0 w.table (block_of r) p)
+  unfolding going_on going_on_table
   together-proposal p true e = rw e (together-block seat stakes p.out (block_of r) w.table)
   together-proposal p false e = rw e (together-ended seat stakes p.out w.table (block_of r))
 
-  pub together-handled : (k : Kind) → together (inSeat seat stakes (handledIn m seat.own.0 w.state r k)) w.table (block_of r) ≡ handled w r k
+  pub together-handled : (k : Kind) → together (in_seat seat stakes (handled_in m seat.own.0 w.state r k)) w.table (block_of r) ≡ handled w r k
   together-handled Kind.Bad = together-ended seat stakes _ w.table (block_of r)
   together-handled Kind.Start = together-ended seat stakes _ w.table (block_of r)
   together-handled Kind.Propose = together-proposal _ _ refl
@@ -123,20 +123,20 @@ module _ (w : World) (r : List ℕ) where
   -- ---- the order of refusals
 
   together-limited : (k : Kind) (roomful : Bool) (good : Bool)
-      → together (cond roomful (cond good (inSeat seat stakes (handledIn m seat.own.0 w.state r k)) (ended seat stakes (refused (limitOf r k) w.state))) (ended seat stakes (refused noRoom w.state))) w.table (block_of r)
-      ≡ cond roomful (cond good (handled w r k) (refusedIn (limitOf r k) w)) (refusedIn noRoom w)
+      → together (cond roomful (cond good (in_seat seat stakes (handled_in m seat.own.0 w.state r k)) (ended seat stakes (refused (limit_of r k) w.state))) (ended seat stakes (refused no_room w.state))) w.table (block_of r)
+      ≡ cond roomful (cond good (handled w r k) (refused_in (limit_of r k) w)) (refused_in no_room w)
   together-limited k true true = together-handled k
   together-limited k true false = together-ended seat stakes _ w.table (block_of r)
   together-limited k false good = together-ended seat stakes _ w.table (block_of r)
 
-  together-booted : (st : Setup) → together (bootedBy seat stakes w.state r st) w.table (block_of r) ≡ begunBy w r st
+  together-booted : (st : Setup) → together (booted_by seat stakes w.state r st) w.table (block_of r) ≡ begun_by w r st
   together-booted Bad = together-ended seat stakes _ w.table (block_of r)
-  together-booted (Total t) = together-cleared (newSeat r) (newStakes r) _ w.table (block_of r)
+  together-booted (Total t) = together-cleared (new_seat r) (new_stakes r) _ w.table (block_of r)
 
   together-start : (roomful size : Bool)
-      → together (cond roomful (cond size (bootedBy seat stakes w.state r (setupAt (drop 2 r))) (ended seat stakes (refused noRoom w.state))) (ended seat stakes (refused noRoom w.state))) w.table (block_of r)
-      ≡ cond roomful (cond size (begunBy w r (setupAt (drop 2 r))) (refusedIn noRoom w)) (refusedIn noRoom w)
-  together-start true true = together-booted (setupAt (drop 2 r))
+      → together (cond roomful (cond size (booted_by seat stakes w.state r (setup_at (drop 2 r))) (ended seat stakes (refused no_room w.state))) (ended seat stakes (refused no_room w.state))) w.table (block_of r)
+      ≡ cond roomful (cond size (begun_by w r (setup_at (drop 2 r))) (refused_in no_room w)) (refused_in no_room w)
+  together-start true true = together-booted (setup_at (drop 2 r))
   together-start true false = together-ended seat stakes _ w.table (block_of r)
   together-start false size = together-ended seat stakes _ w.table (block_of r)
 
@@ -144,19 +144,19 @@ module _ (w : World) (r : List ℕ) where
     abbrev roomful : Bool
     roomful = roomy (length w.table) room
 
-    other : (k : Kind) (st : Setup) → isStart k ≡ false → together (bySetup seat stakes w.state roomful r k st) w.table (block_of r) ≡ onOther w room r k st
-    unfolding readyIn
-    other k Bad e = rw e (together-ended seat stakes (refused notStarted w.state) w.table (block_of r))
-    other k (Total t) e = rw e (together-limited k roomful (eqb (limitOf r k) 0))
+    other : (k : Kind) (st : Setup) → is_start k ≡ false → together (by_setup seat stakes w.state roomful r k st) w.table (block_of r) ≡ on_other w room r k st
+    unfolding ready_in
+    other k Bad e = rw e (together-ended seat stakes (refused not_started w.state) w.table (block_of r))
+    other k (Total t) e = rw e (together-limited k roomful (eqb (limit_of r k) 0))
 
-    started-first : (st : Setup) → together (bySetup seat stakes w.state roomful r Kind.Start st) w.table (block_of r) ≡ onStart w room r st
-    unfolding startedIn begun
-    started-first Bad = together-start roomful (sizedIn w)
+    started-first : (st : Setup) → together (by_setup seat stakes w.state roomful r Kind.Start st) w.table (block_of r) ≡ on_start w room r st
+    unfolding started_in begun
+    started-first Bad = together-start roomful (sized_in w)
     started-first (Total t) = together-ended seat stakes _ w.table (block_of r)
 
     by_kind : (k : Kind)
-        → together (cond (isBad k) (ended seat stakes (refused badRecord w.state)) (bySetup seat stakes w.state roomful r k (started w))) w.table (block_of r)
-        ≡ onKind w room r k
+        → together (cond (is_bad k) (ended seat stakes (refused bad_record w.state)) (by_setup seat stakes w.state roomful r k (started w))) w.table (block_of r)
+        ≡ on_kind w room r k
     by_kind Kind.Bad = together-ended seat stakes _ w.table (block_of r)
     by_kind Kind.Start = started-first (started w)
     by_kind Kind.Propose = other Kind.Propose (started w) refl
@@ -167,6 +167,6 @@ module _ (w : World) (r : List ℕ) where
     by_kind Kind.Tick = other Kind.Tick (started w) refl
 
     -- the three parts of an event are the event
-    pub stages-step : together (stagedOf seat stakes w.state roomful r) w.table (block_of r) ≡ stepped w room r
-    unfolding stagedOf stepped
+    pub stages-step : together (staged_of seat stakes w.state roomful r) w.table (block_of r) ≡ stepped w room r
+    unfolding staged_of stepped
     stages-step = by_kind (form_of r)

@@ -8,17 +8,17 @@ use borrow.Author.Tests.{eq-eqb, ne_eqb, le-leb, lt-leb, lt-ltb, le-ltb, eqb-tru
 use lib.Dec.{eqb, ltb, leb}
 use lib.ListN.{length, take, drop}
 use lib.Seq.{length-take-le}
-use Rattle.certificates.specs.Config.{membersMax, totalMax, sum, quorumFrom, quorumOf, setupOf}
+use Rattle.certificates.specs.Config.{members_max, total_max, sum, quorum_from, quorum_of, setup_of}
 use Rattle.certificates.specs.declared.numbers.Stake.{Stake}
 use Rattle.certificates.specs.declared.config.Setup.{Setup}
 use Rattle.certificates.specs.declared.config.Setup.TheVariants.{Bad, Total}
 use Rattle.certificates.proofs.ConfigLaws.{Within, within}
-use Rattle.aggregator.specs.Tally.{voteWidth, timeoutWidth}
-use Rattle.aggregator.specs.Tallies.{voteTallies, timeoutTallies, votesLength, timeoutsLength, heavy, anyHeavy}
+use Rattle.aggregator.specs.Tally.{vote_width, timeout_width}
+use Rattle.aggregator.specs.Tallies.{vote_tallies, timeout_tallies, votes_length, timeouts_length, heavy, any_heavy}
 use Rattle.aggregator.proofs.Laws.{light-of, light-more}
 use Rattle.handlers.specs.Sound.{Sound}
 use Rattle.replica.specs.declared.started.Seat.{Seat}
-use Rattle.replica.specs.Started.{members_of, sized, shaped, lightIn, startedOf, slotsMax, room_for, roomy}
+use Rattle.replica.specs.Started.{members_of, sized, shaped, light_in, started_of, slots_max, room_for, roomy}
 
 -- a setup that is bad is none with a total
 bad≢total : {t : Stake} → ◌≡◌ {A = Setup} Bad (Total t) → ⊥
@@ -35,54 +35,54 @@ both true b e = (refl, e)
 both false b e = absurd (true≢false (sym e))
 
 pub record Sized (stakes votes timeouts : ℕ) : Type 0 where
-  pub members : stakes ≡ membersMax
-  pub long : votes ≡ votesLength
-  pub wide : timeouts ≡ timeoutsLength
+  pub members : stakes ≡ members_max
+  pub long : votes ≡ votes_length
+  pub wide : timeouts ≡ timeouts_length
 
 pub sized-has : (stakes votes timeouts : ℕ) → sized stakes votes timeouts ≡ true → Sized stakes votes timeouts
 unfolding sized
 sized-has stakes votes timeouts e =
-    let a = both (eqb stakes membersMax) _ e in
-    let b = both (eqb votes votesLength) _ a.1 in
+    let a = both (eqb stakes members_max) _ e in
+    let b = both (eqb votes votes_length) _ a.1 in
     record { members = eqb-true _ _ a.0; long = eqb-true _ _ b.0; wide = eqb-true _ _ b.1 }
 
 pub record Shaped (seat : Seat) (stakes votes timeouts : ℕ) : Type 0 where
-  pub few : seat.count ≤ membersMax
+  pub few : seat.count ≤ members_max
   pub own : seat.own.0 < seat.count
   pub sizes : Sized stakes votes timeouts
 
 pub shaped-has : (seat : Seat) (stakes votes timeouts : ℕ) → shaped seat stakes votes timeouts ≡ true → Shaped seat stakes votes timeouts
 unfolding shaped
 shaped-has seat stakes votes timeouts e =
-    let a = both (leb seat.count membersMax) _ e in
+    let a = both (leb seat.count members_max) _ e in
     let b = both (ltb seat.own.0 seat.count) _ a.1 in
     record { few = leb-true _ _ a.0; own = ltb-true _ _ b.0; sizes = sized-has stakes votes timeouts b.1 }
 
 -- ---- one law for each way out
 
 module _ (stakes votes timeouts : ℕ) where
-  pub sized-all : stakes ≡ membersMax → votes ≡ votesLength → eqb timeouts timeoutsLength ≡ sized stakes votes timeouts
+  pub sized-all : stakes ≡ members_max → votes ≡ votes_length → eqb timeouts timeouts_length ≡ sized stakes votes timeouts
   unfolding sized
   sized-all a b = rw (eq-eqb _ _ a, eq-eqb _ _ b)
 
-  pub sized-votes : stakes ≡ membersMax → (votes ≡ votesLength → ⊥) → false ≡ sized stakes votes timeouts
+  pub sized-votes : stakes ≡ members_max → (votes ≡ votes_length → ⊥) → false ≡ sized stakes votes timeouts
   unfolding sized
   sized-votes a b = rw (eq-eqb _ _ a, ne_eqb _ _ b)
 
-  pub sized-stakes : (stakes ≡ membersMax → ⊥) → false ≡ sized stakes votes timeouts
+  pub sized-stakes : (stakes ≡ members_max → ⊥) → false ≡ sized stakes votes timeouts
   unfolding sized
   sized-stakes a = rw (ne_eqb _ _ a)
 
   module _ (seat : Seat) where
-    pub shaped-all : {t : Bool} → seat.count ≤ membersMax → seat.own.0 < seat.count → t ≡ sized stakes votes timeouts → t ≡ shaped seat stakes votes timeouts
+    pub shaped-all : {t : Bool} → seat.count ≤ members_max → seat.own.0 < seat.count → t ≡ sized stakes votes timeouts → t ≡ shaped seat stakes votes timeouts
     unfolding shaped
     shaped-all a b e = rw (le-leb _ _ a, lt-ltb _ _ b) e
 
-    pub shaped-own : seat.count ≤ membersMax → seat.count ≤ seat.own.0 → false ≡ shaped seat stakes votes timeouts
+    pub shaped-own : seat.count ≤ members_max → seat.count ≤ seat.own.0 → false ≡ shaped seat stakes votes timeouts
     unfolding shaped
     shaped-own a b = rw (le-leb _ _ a, le-ltb _ _ b)
 
-    pub shaped-many : membersMax < seat.count → false ≡ shaped seat stakes votes timeouts
+    pub shaped-many : members_max < seat.count → false ≡ shaped seat stakes votes timeouts
     unfolding shaped
     shaped-many a = rw (lt-leb _ _ a)
 
@@ -91,15 +91,15 @@ light-by true b t = refl
 light-by false true t = refl
 light-by false false t = refl
 
-module _ (votes timeouts : List ℕ) (t : Stake) {l : Bool} (e : l ≡ not (anyHeavy votes timeouts t.0)) where
-  light-is : cond l (Total t) Bad ≡ lightIn votes timeouts (Total t)
-  unfolding anyHeavy
-  light-is = rw e (light-by (heavy voteWidth voteTallies votes t.0) (heavy timeoutWidth timeoutTallies timeouts t.0) t)
+module _ (votes timeouts : List ℕ) (t : Stake) {l : Bool} (e : l ≡ not (any_heavy votes timeouts t.0)) where
+  light-is : cond l (Total t) Bad ≡ light_in votes timeouts (Total t)
+  unfolding any_heavy
+  light-is = rw e (light-by (heavy vote_width vote_tallies votes t.0) (heavy timeout_width timeout_tallies timeouts t.0) t)
 
-  pub light-all : l ≡ true → Total t ≡ lightIn votes timeouts (Total t)
+  pub light-all : l ≡ true → Total t ≡ light_in votes timeouts (Total t)
   light-all h = rw h at light-is
 
-  pub light-not : l ≡ false → Bad ≡ lightIn votes timeouts (Total t)
+  pub light-not : l ≡ false → Bad ≡ light_in votes timeouts (Total t)
   light-not h = rw h at light-is
 
 -- the committee, as it is lent out of the stakes
@@ -107,17 +107,17 @@ pub members-part : (seat : Seat) (stakes : List ℕ) → take (seat.count - 0) (
 members-part seat stakes = let e : seat.count - 0 ≡ seat.count = omega arith in rw e
 
 module _ (seat : Seat) (stakes votes timeouts : List ℕ) {b : Bool} (e : b ≡ shaped seat (length stakes) (length votes) (length timeouts)) where
-  pub started-shapeless : b ≡ false → Bad ≡ startedOf seat stakes votes timeouts
-  unfolding startedOf
+  pub started-shapeless : b ≡ false → Bad ≡ started_of seat stakes votes timeouts
+  unfolding started_of
   started-shapeless h = rw (← e, h)
 
-  module _ (h : b ≡ true) {st : Setup} (f : st ≡ setupOf (take (seat.count - 0) (drop 0 stakes))) where
-    pub started-bad : st ≡ Bad → Bad ≡ startedOf seat stakes votes timeouts
-    unfolding startedOf
+  module _ (h : b ≡ true) {st : Setup} (f : st ≡ setup_of (take (seat.count - 0) (drop 0 stakes))) where
+    pub started-bad : st ≡ Bad → Bad ≡ started_of seat stakes votes timeouts
+    unfolding started_of
     started-bad i = rw (← e, h, ← members-part seat stakes, ← f, i)
 
-    pub started-good : {t : Stake} {r : Setup} → st ≡ Total t → r ≡ lightIn votes timeouts (Total t) → r ≡ startedOf seat stakes votes timeouts
-    unfolding startedOf
+    pub started-good : {t : Stake} {r : Setup} → st ≡ Total t → r ≡ light_in votes timeouts (Total t) → r ≡ started_of seat stakes votes timeouts
+    unfolding started_of
     started-good i j = rw (← e, h, ← members-part seat stakes, ← f, i) j
 
 module _ (slots room : ℕ) where
@@ -125,32 +125,32 @@ module _ (slots room : ℕ) where
   unfolding roomy
   roomy-none h = rw (eq-eqb _ _ h)
 
-  pub roomy-many : (slots ≡ 0 → ⊥) → slotsMax < slots → false ≡ roomy slots room
+  pub roomy-many : (slots ≡ 0 → ⊥) → slots_max < slots → false ≡ roomy slots room
   unfolding roomy
   roomy-many a h = rw (ne_eqb _ _ a, lt-ltb _ _ h)
 
-  pub roomy-by : (slots ≡ 0 → ⊥) → slots ≤ slotsMax → leb (room_for slots) room ≡ roomy slots room
+  pub roomy-by : (slots ≡ 0 → ⊥) → slots ≤ slots_max → leb (room_for slots) room ≡ roomy slots room
   unfolding roomy
   roomy-by a h = rw (ne_eqb _ _ a, le-ltb _ _ h)
 
 -- ---- a record that counts as started
 
 good-setup : (votes timeouts : List ℕ) (st : Setup) (v k : Bool) (t u : Stake)
-    → st ≡ Total u → heavy voteWidth voteTallies votes u.0 ≡ v → heavy timeoutWidth timeoutTallies timeouts u.0 ≡ k → lightIn votes timeouts st ≡ Total t
+    → st ≡ Total u → heavy vote_width vote_tallies votes u.0 ≡ v → heavy timeout_width timeout_tallies timeouts u.0 ≡ k → light_in votes timeouts st ≡ Total t
     → (u ≡ t) × (v ≡ false) × (k ≡ false)
 good-setup votes timeouts st true k t u s e f h = absurd (bad≢total (rw (s, e) at h))
 good-setup votes timeouts st false true t u s e f h = absurd (bad≢total (rw (s, e, f) at h))
 good-setup votes timeouts st false false t u s e f h = (total-same (rw (s, e, f) at h), refl, refl)
 
-light-parts : (votes timeouts : List ℕ) (st : Setup) (t : Stake) → lightIn votes timeouts st ≡ Total t
-    → (st ≡ Total t) × (heavy voteWidth voteTallies votes t.0 ≡ false) × (heavy timeoutWidth timeoutTallies timeouts t.0 ≡ false)
+light-parts : (votes timeouts : List ℕ) (st : Setup) (t : Stake) → light_in votes timeouts st ≡ Total t
+    → (st ≡ Total t) × (heavy vote_width vote_tallies votes t.0 ≡ false) × (heavy timeout_width timeout_tallies timeouts t.0 ≡ false)
 light-parts votes timeouts Bad t h = absurd (bad≢total h)
 light-parts votes timeouts (Total u) t h =
     let p = good-setup votes timeouts (Total u) _ _ t u refl refl refl h in
     (ap Total p.0, rw p.0 at p.1, rw p.0 at p.2)
 
-started-parts : (seat : Seat) (stakes votes timeouts : List ℕ) (b : Bool) (t : Stake) → cond b (lightIn votes timeouts (setupOf (members_of seat stakes))) Bad ≡ Total t
-    → (b ≡ true) × (lightIn votes timeouts (setupOf (members_of seat stakes)) ≡ Total t)
+started-parts : (seat : Seat) (stakes votes timeouts : List ℕ) (b : Bool) (t : Stake) → cond b (light_in votes timeouts (setup_of (members_of seat stakes))) Bad ≡ Total t
+    → (b ≡ true) × (light_in votes timeouts (setup_of (members_of seat stakes)) ≡ Total t)
 started-parts seat stakes votes timeouts true t h = (refl, h)
 started-parts seat stakes votes timeouts false t h = absurd (bad≢total h)
 
@@ -160,12 +160,12 @@ pub record Ready (seat : Seat) (stakes votes timeouts : List ℕ) (t : Stake) : 
   pub sound : Sound (members_of seat stakes) seat.own.0 votes timeouts
   pub total : t.0 ≡ sum (members_of seat stakes)
 
-pub started-ready : (seat : Seat) (stakes votes timeouts : List ℕ) (t : Stake) → startedOf seat stakes votes timeouts ≡ Total t → Ready seat stakes votes timeouts t
-unfolding startedOf
+pub started-ready : (seat : Seat) (stakes votes timeouts : List ℕ) (t : Stake) → started_of seat stakes votes timeouts ≡ Total t → Ready seat stakes votes timeouts t
+unfolding started_of
 started-ready seat stakes votes timeouts t h =
     let a = started-parts seat stakes votes timeouts (shaped seat (length stakes) (length votes) (length timeouts)) t h in
     let s = shaped-has seat (length stakes) (length votes) (length timeouts) a.0 in
-    let l = light-parts votes timeouts (setupOf (members_of seat stakes)) t a.1 in
+    let l = light-parts votes timeouts (setup_of (members_of seat stakes)) t a.1 in
     let w = within (members_of seat stakes) t l.0 in
     let n : seat.count ≤ length stakes = omega (arith, s.few, s.sizes.members) in
     let k : length (members_of seat stakes) ≡ seat.count = length-take-le seat.count stakes n in
@@ -179,8 +179,8 @@ started-ready seat stakes votes timeouts t h =
             small = omega (arith, w.total, w.small);
             long = s.sizes.long;
             wide = s.sizes.wide;
-            light = light-more voteWidth voteTallies votes t.0 totalMax w.small (light-of voteWidth voteTallies votes t.0 l.1);
-            late = light-more timeoutWidth timeoutTallies timeouts t.0 totalMax w.small (light-of timeoutWidth timeoutTallies timeouts t.0 l.2);
+            light = light-more vote_width vote_tallies votes t.0 total_max w.small (light-of vote_width vote_tallies votes t.0 l.1);
+            late = light-more timeout_width timeout_tallies timeouts t.0 total_max w.small (light-of timeout_width timeout_tallies timeouts t.0 l.2);
           };
     }
 
@@ -189,8 +189,8 @@ module _ (seat : Seat) (stakes votes timeouts : ℕ) {b : Bool} (e : b ≡ shape
   pub shaped-fits : seat.count ≤ stakes
   shaped-fits = let s = shaped-has seat stakes votes timeouts (sym e ∙ h) in omega (arith, s.few, s.sizes.members)
 
-  pub shaped-long : votes ≡ votesLength
+  pub shaped-long : votes ≡ votes_length
   shaped-long = (shaped-has seat stakes votes timeouts (sym e ∙ h)).sizes.long
 
-  pub shaped-wide : timeouts ≡ timeoutsLength
+  pub shaped-wide : timeouts ≡ timeouts_length
   shaped-wide = (shaped-has seat stakes votes timeouts (sym e ∙ h)).sizes.wide

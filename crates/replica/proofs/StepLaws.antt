@@ -8,11 +8,11 @@ use native.Mathlib.Omega.{arith}
 use borrow.Author.Tests.{ne_eqb, eqb-true, eqb-false, leb-true}
 use lib.Dec.{eqb, ltb, leb}
 use lib.ListN.{length, drop}
-use Rattle.handlers.specs.Votes.{votingMost}
+use Rattle.handlers.specs.Votes.{voting_most}
 use Rattle.certificates.specs.declared.numbers.Round.{Round}
 use Rattle.trace.specs.declared.events.Block.{Block}
 use Rattle.trace.specs.Fields.{block_of}
-use Rattle.outputs.specs.Records.{Rec, encAll}
+use Rattle.outputs.specs.Records.{Rec, enc_all}
 use Rattle.outputs.specs.Put.{Wrote}
 use Rattle.outputs.proofs.Wrote.{all_none, wrote_then, wrote-length, wrote-start, wrote_count}
 use Rattle.moves.specs.declared.state.Core.{Core}
@@ -21,21 +21,21 @@ use Rattle.moves.specs.Outcome.{Outcome, refused}
 use Rattle.synchronizer.specs.declared.table.Slot.{Slot}
 use Rattle.synchronizer.specs.declared.settle.Work.{Work}
 use Rattle.synchronizer.specs.declared.settle.Settled.{Settled}
-use Rattle.synchronizer.specs.Settle.{Settlement, settled_of, settleMost, RoomFor, Settles}
+use Rattle.synchronizer.specs.Settle.{Settlement, settled_of, settle_most, RoomFor, Settles}
 use Rattle.synchronizer.proofs.SettleLaws.{settled-anywhere, settled-silent}
 use Rattle.replica.specs.declared.started.Seat.{Seat}
 use Rattle.replica.specs.declared.stages.Begun.{Begun}
 use Rattle.replica.specs.declared.stages.Stepped.{Stepped}
-use Rattle.replica.specs.Started.{members_of, slotsMax, room_for, roomy}
-use Rattle.replica.specs.Blocks.{slotFor, workFor}
-use Rattle.replica.specs.Step.{World, Result, Left, laid, world, leftBy, stepped}
-use Rattle.replica.specs.Stages.{Stage, stagedOf, finishedOf, no_slot, workAt, stageWork, followed, concluded, together, firstMost, Ongoing, Begins, Finishable, Finishes}
+use Rattle.replica.specs.Started.{members_of, slots_max, room_for, roomy}
+use Rattle.replica.specs.Blocks.{slot_for, work_for}
+use Rattle.replica.specs.Step.{World, Result, Left, laid, world, left_by, stepped}
+use Rattle.replica.specs.Stages.{Stage, staged_of, finished_of, no_slot, work_at, stage_work, followed, concluded, together, first_most, Ongoing, Begins, Finishable, Finishes}
 use Rattle.replica.proofs.StageLaws.{stages-step}
 
 -- ---- what the table is asked for
 
 abbrev asked : Bool → ℕ → Block → Round → ℕ → Work
-asked z does k last at = cond z (workFor k last at) (record { does = does; block = no_slot; author = record { 0 = 0 }; last = last; at = at })
+asked z does k last at = cond z (work_for k last at) (record { does = does; block = no_slot; author = record { 0 = 0 }; last = last; at = at })
 
 asked-at : (z : Bool) (does : ℕ) (k : Block) (last : Round) (at : ℕ) → (asked z does k last at).at ≡ at
 asked-at true does k last at = refl
@@ -50,36 +50,36 @@ asked-anywhere t true does k last at at' = settled-anywhere t 2 _ k.author last 
 asked-anywhere t false does k last at at' = settled-anywhere t does no_slot (record { 0 = 0 }) last at at'
 
 module _ (b : Begun) (k : Block) where
-  pub work-at : (workAt b k).at ≡ b.at
-  unfolding workAt
+  pub work-at : (work_at b k).at ≡ b.at
+  unfolding work_at
   work-at = asked-at (eqb b.does 2) b.does k b.core.last_committed_round b.at
 
-  pub work-does : (workAt b k).does ≡ b.does
-  unfolding workAt
+  pub work-does : (work_at b k).does ≡ b.does
+  unfolding work_at
   work-does = asked-does (eqb b.does 2) b.does k b.core.last_committed_round b.at refl
 
 -- the settlement does not depend on the place to write at
 same-settled : (t : List Slot) (b : Begun) (g : Stage) (k : Block) → b.does ≡ g.does → b.core.last_committed_round ≡ g.out.left.state.core.last_committed_round
-    → settled_of t (workAt b k) ≡ settled_of t (stageWork g k)
-unfolding workAt stageWork
+    → settled_of t (work_at b k) ≡ settled_of t (stage_work g k)
+unfolding work_at stage_work
 same-settled t b g k d l = rw (d, l) (asked-anywhere t (eqb g.does 2) g.does k g.out.left.state.core.last_committed_round b.at 0)
 
 -- ---- the room
 
 -- a table within the limits has room for its output
-room_of : (slots room : ℕ) (a c : Bool) → cond a false (cond c false (leb (room_for slots) room)) ≡ true → room_for slots ≤ room
-room_of slots room true c e = absurd (true≢false (sym e))
-room_of slots room false true e = absurd (true≢false (sym e))
-room_of slots room false false e = leb-true (room_for slots) room e
+room_of_lem : (slots room : ℕ) (a c : Bool) → cond a false (cond c false (leb (room_for slots) room)) ≡ true → room_for slots ≤ room
+room_of_lem slots room true c e = absurd (true≢false (sym e))
+room_of_lem slots room false true e = absurd (true≢false (sym e))
+room_of_lem slots room false false e = leb-true (room_for slots) room e
 
 pub roomy-has : (slots room : ℕ) → roomy slots room ≡ true → room_for slots ≤ room
 unfolding roomy
-roomy-has slots room e = room_of slots room (eqb slots 0) (ltb slotsMax slots) e
+roomy-has slots room e = room_of_lem slots room (eqb slots 0) (ltb slots_max slots) e
 
 -- records that were written fit, if the place after them is within the buffer
 laid_out : {k next : ℕ} {outs : List Rec} {before after : List ℕ} → Wrote k outs before 0 after next → next ≤ length before
-    → after ≡ encAll outs ++ drop (length (encAll outs)) before
-laid_out {outs = outs} w h = wrote-start {k = length (encAll outs)} (record { place = w.place; stored = w.stored; room = omega (arith, w.place) }) (omega (arith, w.place, h))
+    → after ≡ enc_all outs ++ drop (length (enc_all outs)) before
+laid_out {outs = outs} w h = wrote-start {k = length (enc_all outs)} (record { place = w.place; stored = w.stored; room = omega (arith, w.place) }) (omega (arith, w.place, h))
 
 -- ---- records, field by field
 
@@ -93,10 +93,10 @@ same-world e f h i = rw (e, f, h, i)
 
 module _ (seat : Seat) (stakes : List ℕ) (core : Core) (votes timeouts : List ℕ) (table : List Slot) (out r : List ℕ) (slots : ℕ) (n : slots ≡ length table)
     {b : Begun} {stakes' votes' timeouts' out₁ : List ℕ}
-    (p : Begins (stagedOf seat stakes (whole core votes timeouts) (roomy slots (length out)) r) (roomy slots (length out)) r out b stakes' votes' timeouts' out₁)
-    {w : Work} (ask : w ≡ workAt b (block_of r)) where
+    (p : Begins (staged_of seat stakes (whole core votes timeouts) (roomy slots (length out)) r) (roomy slots (length out)) r out b stakes' votes' timeouts' out₁)
+    {w : Work} (ask : w ≡ work_at b (block_of r)) where
   abbrev g : Stage
-  g = stagedOf seat stakes (whole core votes timeouts) (roomy slots (length out)) r
+  g = staged_of seat stakes (whole core votes timeouts) (roomy slots (length out)) r
 
   long₁ : length out₁ ≡ length out
   long₁ = wrote-length p.did.bytes
@@ -112,11 +112,11 @@ module _ (seat : Seat) (stakes : List ℕ) (core : Core) (votes timeouts : List 
       let q = p.going (sym does-w ∙ d) in
       omega (arith, at-w, long₁, n, roomy-has slots (length out) q.0, q.1.going.short)
 
-  module _ {s : Settled} {table' : List Slot} {out₂ : List ℕ} (q : Settles (settled_of table w) (settleMost (length table)) out₁ w.at s table' out₂) where
+  module _ {s : Settled} {table' : List Slot} {out₂ : List ℕ} (q : Settles (settled_of table w) (settle_most (length table)) out₁ w.at s table' out₂) where
     long₂ : length out₂ ≡ length out₁
     long₂ = wrote-length q.bytes
 
-    finish-fits : b.does ≡ 2 → Ongoing b r stakes' votes' timeouts' × (s.at + votingMost ≤ length out₂)
+    finish-fits : b.does ≡ 2 → Ongoing b r stakes' votes' timeouts' × (s.at + voting_most ≤ length out₂)
     finish-fits d =
         let k = p.going d in
         (k.1, omega (arith, at-w, long₁, long₂, n, roomy-has slots (length out) k.0, k.1.going.short, q.bytes.room))
@@ -128,7 +128,7 @@ module _ (seat : Seat) (stakes : List ℕ) (core : Core) (votes timeouts : List 
 
     -- the settlement, of the first part as it is defined
     abbrev settlement : Settlement
-    settlement = settled_of table (stageWork g (block_of r))
+    settlement = settled_of table (stage_work g (block_of r))
 
     state-g : whole b.core votes' timeouts' ≡ g.out.left.state
     state-g = p.did.state
@@ -139,11 +139,11 @@ module _ (seat : Seat) (stakes : List ℕ) (core : Core) (votes timeouts : List 
     -- what the first part leaves, as the last one is asked
     abbrev finished : Outcome
     finished =
-        finishedOf (members_of b.seat stakes') b.seat.own.0 (whole b.core votes' timeouts') b.does b.answer s.answer s.last.0 (block_of r)
+        finished_of (members_of b.seat stakes') b.seat.own.0 (whole b.core votes' timeouts') b.does b.answer s.answer s.last.0 (block_of r)
 
     abbrev finishing : Outcome
     finishing =
-        finishedOf (members_of g.seat g.stakes) g.seat.own.0 g.out.left.state g.does g.out.answer settlement.answer settlement.last (block_of r)
+        finished_of (members_of g.seat g.stakes) g.seat.own.0 g.out.left.state g.does g.out.answer settlement.answer settlement.last (block_of r)
 
     same-finished : finished ≡ finishing
     same-finished = rw (p.sits, p.held, state-g, p.does, p.answer, q.answer, q.last, settled-g)
@@ -153,17 +153,17 @@ module _ (seat : Seat) (stakes : List ℕ) (core : Core) (votes timeouts : List 
     quiet-end true e = omega (arith, (finish-fits (eqb-true b.does 2 e)).1, long₁, long₂)
     quiet-end false e =
         let none : (settled_of table w).outs ≡ [] = settled-silent table w (λ (h : w.does ≡ 2). eqb-false b.does 2 e (sym does-w ∙ h)) in
-        let same : s.at ≡ w.at + length (encAll []) = rw none at q.bytes.place in
-        let empty : length (encAll []) ≡ 0 = ap length all_none in
+        let same : s.at ≡ w.at + length (enc_all []) = rw none at q.bytes.place in
+        let empty : length (enc_all []) ≡ 0 = ap length all_none in
         omega (arith, same, empty, at-w, p.fits)
 
-    module _ {x : Stepped} {votes'' timeouts'' out₃ : List ℕ} (f : Finishes finished votingMost b.seat out₂ s.at x votes'' timeouts'' out₃) where
+    module _ {x : Stepped} {votes'' timeouts'' out₃ : List ℕ} (f : Finishes finished voting_most b.seat out₂ s.at x votes'' timeouts'' out₃) where
       fits_by : (z : Bool) → eqb b.does 2 ≡ z → x.written ≤ length out
-      unfolding finishedOf
+      unfolding finished_of
       fits_by true e = omega (arith, (finish-fits (eqb-true b.does 2 e)).1, long₁, long₂, f.did.bytes.room)
       fits_by false e =
-          let same : x.written ≡ s.at + length (encAll []) = rw e at f.did.bytes.place in
-          let empty : length (encAll []) ≡ 0 = ap length all_none in
+          let same : x.written ≡ s.at + length (enc_all []) = rw e at f.did.bytes.place in
+          let empty : length (enc_all []) ≡ 0 = ap length all_none in
           omega (arith, same, empty, quiet-end false e)
 
       written-fits : x.written ≤ length out
@@ -172,7 +172,7 @@ module _ (seat : Seat) (stakes : List ℕ) (core : Core) (votes timeouts : List 
       abbrev outs : List Rec
       outs = g.out.left.outs ++ (settlement.outs ++ finishing.left.outs)
 
-      all-written : Wrote (firstMost + (settleMost (length table) + votingMost)) outs out 0 out₃ x.written
+      all-written : Wrote (first_most + (settle_most (length table) + voting_most)) outs out 0 out₃ x.written
       all-written = wrote_then p.did.bytes (wrote_then (rw at-w at (rw settled-g at q.bytes)) (rw same-finished at f.did.bytes))
 
       -- "outputs always fit 44*slots+2,048 bytes": 1,433 before the table, 112 and the COMMITs at it, 111 after it
@@ -184,7 +184,7 @@ module _ (seat : Seat) (stakes : List ℕ) (core : Core) (votes timeouts : List 
       unfolding together
       result-g = sym (rw (← n) at (stages-step (world seat stakes core votes timeouts table) r (length out)))
 
-      left-g : leftBy x stakes' votes'' timeouts'' table' out₃ ≡ laid (concluded g (block_of r) settlement) out
+      left-g : left_by x stakes' votes'' timeouts'' table' out₃ ≡ laid (concluded g (block_of r) settlement) out
       unfolding laid
       left-g =
           same_left
@@ -194,18 +194,18 @@ module _ (seat : Seat) (stakes : List ℕ) (core : Core) (votes timeouts : List 
           (wrote_count all-written)
           (laid_out all-written written-fits)
 
-      pub step_left : leftBy x stakes' votes'' timeouts'' table' out₃ ≡ laid (stepped (world seat stakes core votes timeouts table) (length out) r) out
+      pub step_left : left_by x stakes' votes'' timeouts'' table' out₃ ≡ laid (stepped (world seat stakes core votes timeouts table) (length out) r) out
       step_left = left-g ∙ ap (λ (y : Result). laid y out) (sym result-g)
 
 -- ---- what the table is asked for, by code
 
 module _ (b : Begun) {k k' : Block} (e : k ≡ k') where
-  pub work-block : {s : Slot} → b.does ≡ 2 → s ≡ slotFor k
-      → record { does = 2; block = s; author = k.author; last = b.core.last_committed_round; at = b.at } ≡ workAt b k'
-  unfolding workAt
+  pub work-block : {s : Slot} → b.does ≡ 2 → s ≡ slot_for k
+      → record { does = 2; block = s; author = k.author; last = b.core.last_committed_round; at = b.at } ≡ work_at b k'
+  unfolding work_at
   work-block h f = rw (h, f, e)
 
 pub work-other : (b : Begun) (k : Block) {s : Slot} → (b.does ≡ 2 → ⊥) → s ≡ no_slot
-    → record { does = b.does; block = s; author = record { 0 = 0 }; last = b.core.last_committed_round; at = b.at } ≡ workAt b k
-unfolding workAt
+    → record { does = b.does; block = s; author = record { 0 = 0 }; last = b.core.last_committed_round; at = b.at } ≡ work_at b k
+unfolding work_at
 work-other b k h f = rw (ne_eqb _ _ h, f)

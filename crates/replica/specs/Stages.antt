@@ -1,34 +1,34 @@
 -- How the code goes about an event: what needs no block first, then the table, then the vote. `proofs.StageLaws` shows that the three
 -- together are `stepped`.
 --     Stage                     what the first part leaves, and what is to be done with the table (0 nothing, 1 clear it, 2 the block)
---     stagedOf w slots room r   the first part
---     workAt                    what the table is asked for
---     finishedOf                the last part
+--     staged_of w slots room r   the first part
+--     work_at                    what the table is asked for
+--     finished_of                the last part
 --     together                  the three, as one result
 --     Begins, Finishes          what the code of the two parts did
 use Rattle.std.specs.Prelude.{ℕ, ◌+◌, ◌≤◌, Bool, true, false, cond, List, ◌++◌, ◌≡◌, eqb, length, drop}
-use Rattle.certificates.specs.Config.{quorumOf}
-use Rattle.certificates.specs.Start.{setupAt, loadedStakes}
-use Rattle.certificates.specs.Error.{badRecord, badSetup, noRoom, notStarted, startedAgain}
+use Rattle.certificates.specs.Config.{quorum_of}
+use Rattle.certificates.specs.Start.{setup_at, loaded_stakes}
+use Rattle.certificates.specs.Error.{bad_record, bad_setup, no_room, not_started, started_again}
 use Rattle.certificates.specs.declared.numbers.Stake.{Stake}
 use Rattle.certificates.specs.declared.config.Setup.{Setup}
 use Rattle.trace.specs.declared.events.Kind.{Kind}
 use Rattle.trace.specs.declared.events.Block.{Block}
 use Rattle.trace.specs.Form.{form_of}
-use Rattle.trace.specs.Limits.{limitOf}
-use Rattle.trace.specs.Fields.{voteOf, timeoutOf, block_of}
-use Rattle.certificates.specs.Numbers.{roundMax}
-use Rattle.trace.specs.Layout.{tcBody, tcRound, payloadOf}
+use Rattle.trace.specs.Limits.{limit_of}
+use Rattle.trace.specs.Fields.{vote_of, timeout_of, block_of}
+use Rattle.certificates.specs.Numbers.{round_max}
+use Rattle.trace.specs.Layout.{tc_body, tc_round, payload_of}
 use Rattle.aggregator.specs.Rows.{zeros}
 use Rattle.moves.specs.declared.state.Core.{Core}
 use Rattle.moves.specs.declared.state.Ran.{Ran}
-use Rattle.moves.specs.State.{State, whole, withCore, withCommitted}
+use Rattle.moves.specs.State.{State, whole, with_core, with_committed}
 use Rattle.moves.specs.Outcome.{Outcome, quiet, done, refused, Did}
 use Rattle.handlers.specs.Sound.{Sound}
-use Rattle.handlers.specs.Votes.{handledVote, voting, votingMost}
-use Rattle.handlers.specs.Timeouts.{handledTimeout, handledTC, handledTick}
-use Rattle.handlers.specs.Proposals.{Proposal, proposalOf}
-use Rattle.certificates.specs.Numbers.{zeroHash}
+use Rattle.handlers.specs.Votes.{handled_vote, voting, voting_most}
+use Rattle.handlers.specs.Timeouts.{handled_timeout, handled_tc, handled_tick}
+use Rattle.handlers.specs.Proposals.{Proposal, proposal_of}
+use Rattle.certificates.specs.Numbers.{zero_hash}
 use Rattle.synchronizer.specs.declared.table.Slot.{Slot}
 use Rattle.synchronizer.specs.declared.settle.Work.{Work}
 use Rattle.synchronizer.specs.declared.settle.Settled.{Settled}
@@ -39,9 +39,9 @@ use Rattle.replica.specs.declared.stages.Begun.{Begun}
 use Rattle.replica.specs.declared.stages.Booting.{Booting}
 use Rattle.replica.specs.declared.stages.Booting.TheVariants.{NoRoom, BadSetup, Good}
 use Rattle.replica.specs.declared.stages.Stepped.{Stepped}
-use Rattle.replica.specs.Started.{members_of, startedOf, sized, roomy}
-use Rattle.replica.specs.Blocks.{workFor}
-use Rattle.replica.specs.Step.{Result, newSeat, newStakes, newState, startOuts, announcedMost}
+use Rattle.replica.specs.Started.{members_of, started_of, sized, roomy}
+use Rattle.replica.specs.Blocks.{work_for}
+use Rattle.replica.specs.Step.{Result, new_seat, new_stakes, new_state, start_outs, announced_most}
 
 pub record Stage : Type 0 where
   pub does : ℕ
@@ -63,110 +63,110 @@ pub record Handled : Type 0 where
 abbrev pub alone : Outcome → Handled
 alone o = record { does = 0; out = o }
 
-abbrev pub byProposal : Proposal → Handled
-byProposal p = record { does = cond p.goesOn 2 0; out = p.out }
+abbrev pub by_proposal : Proposal → Handled
+by_proposal p = record { does = cond p.goes_on 2 0; out = p.out }
 
-abbrev pub handledIn : List ℕ → ℕ → State → List ℕ → Kind → Handled
-handledIn m own s r Kind.Bad = alone (refused badRecord s)
-handledIn m own s r Kind.Start = alone (refused startedAgain s)
-handledIn m own s r Kind.Propose = byProposal (proposalOf m s (block_of r) r (payloadOf r))
-handledIn m own s r Kind.Vote = alone (handledVote m own s (voteOf r))
-handledIn m own s r Kind.Timeout = alone (handledTimeout m own s (timeoutOf r) r)
-handledIn m own s r Kind.Tc = alone (handledTC m own s (tcRound r tcBody) r)
-handledIn m own s r Kind.Loopback = record { does = 2; out = done 0 (quiet s) }
-handledIn m own s r Kind.Tick = alone (handledTick m own s)
+abbrev pub handled_in : List ℕ → ℕ → State → List ℕ → Kind → Handled
+handled_in m own s r Kind.Bad = alone (refused bad_record s)
+handled_in m own s r Kind.Start = alone (refused started_again s)
+handled_in m own s r Kind.Propose = by_proposal (proposal_of m s (block_of r) r (payload_of r))
+handled_in m own s r Kind.Vote = alone (handled_vote m own s (vote_of r))
+handled_in m own s r Kind.Timeout = alone (handled_timeout m own s (timeout_of r) r)
+handled_in m own s r Kind.Tc = alone (handled_tc m own s (tc_round r tc_body) r)
+handled_in m own s r Kind.Loopback = record { does = 2; out = done 0 (quiet s) }
+handled_in m own s r Kind.Tick = alone (handled_tick m own s)
 
-abbrev pub inSeat : Seat → List ℕ → Handled → Stage
-inSeat seat stakes h = record { does = h.does; seat = seat; stakes = stakes; out = h.out }
+abbrev pub in_seat : Seat → List ℕ → Handled → Stage
+in_seat seat stakes h = record { does = h.does; seat = seat; stakes = stakes; out = h.out }
 
-unfoldable pub readyIn : Seat → List ℕ → State → Bool → List ℕ → Kind → Stage
-readyIn seat stakes s room r k =
+unfoldable pub ready_in : Seat → List ℕ → State → Bool → List ℕ → Kind → Stage
+ready_in seat stakes s room r k =
     cond room
-    (cond (eqb (limitOf r k) 0)
-    (inSeat seat stakes (handledIn (members_of seat stakes) seat.own.0 s r k))
-    (ended seat stakes (refused (limitOf r k) s)))
-    (ended seat stakes (refused noRoom s))
+    (cond (eqb (limit_of r k) 0)
+    (in_seat seat stakes (handled_in (members_of seat stakes) seat.own.0 s r k))
+    (ended seat stakes (refused (limit_of r k) s)))
+    (ended seat stakes (refused no_room s))
 
 -- ---- START
 
-abbrev pub bootedBy : Seat → List ℕ → State → List ℕ → Setup → Stage
-bootedBy seat stakes s r Setup.Bad = ended seat stakes (refused badSetup s)
-bootedBy seat stakes s r (Setup.Total t) =
-    record { does = 1; seat = newSeat r; stakes = newStakes r; out = done 0 (record { state = newState; outs = startOuts r }) }
+abbrev pub booted_by : Seat → List ℕ → State → List ℕ → Setup → Stage
+booted_by seat stakes s r Setup.Bad = ended seat stakes (refused bad_setup s)
+booted_by seat stakes s r (Setup.Total t) =
+    record { does = 1; seat = new_seat r; stakes = new_stakes r; out = done 0 (record { state = new_state; outs = start_outs r }) }
 
 -- what a record of START meets: 18, 17, or a good setup
-abbrev pub bootingBy : Setup → Booting
-bootingBy Setup.Bad = BadSetup
-bootingBy (Setup.Total t) = Good t
+abbrev pub booting_by : Setup → Booting
+booting_by Setup.Bad = BadSetup
+booting_by (Setup.Total t) = Good t
 
-unfoldable pub bootingOf : Bool → Bool → Setup → Booting
-bootingOf room size st = cond room (cond size (bootingBy st) NoRoom) NoRoom
+unfoldable pub booting_of : Bool → Bool → Setup → Booting
+booting_of room size st = cond room (cond size (booting_by st) NoRoom) NoRoom
 
-unfoldable pub startedIn : Seat → List ℕ → State → Bool → List ℕ → Stage
-startedIn seat stakes s room r =
+unfoldable pub started_in : Seat → List ℕ → State → Bool → List ℕ → Stage
+started_in seat stakes s room r =
     cond room
     (cond (sized (length stakes) (length s.votes) (length s.timeouts))
-    (bootedBy seat stakes s r (setupAt (drop 2 r)))
-    (ended seat stakes (refused noRoom s)))
-    (ended seat stakes (refused noRoom s))
+    (booted_by seat stakes s r (setup_at (drop 2 r)))
+    (ended seat stakes (refused no_room s)))
+    (ended seat stakes (refused no_room s))
 
 -- ---- the order of refusals
 
-abbrev pub isStart : Kind → Bool
-isStart Kind.Start = true
-isStart Kind.Bad = false
-isStart Kind.Propose = false
-isStart Kind.Vote = false
-isStart Kind.Timeout = false
-isStart Kind.Tc = false
-isStart Kind.Loopback = false
-isStart Kind.Tick = false
+abbrev pub is_start : Kind → Bool
+is_start Kind.Start = true
+is_start Kind.Bad = false
+is_start Kind.Propose = false
+is_start Kind.Vote = false
+is_start Kind.Timeout = false
+is_start Kind.Tc = false
+is_start Kind.Loopback = false
+is_start Kind.Tick = false
 
-abbrev pub isBad : Kind → Bool
-isBad Kind.Bad = true
-isBad Kind.Start = false
-isBad Kind.Propose = false
-isBad Kind.Vote = false
-isBad Kind.Timeout = false
-isBad Kind.Tc = false
-isBad Kind.Loopback = false
-isBad Kind.Tick = false
+abbrev pub is_bad : Kind → Bool
+is_bad Kind.Bad = true
+is_bad Kind.Start = false
+is_bad Kind.Propose = false
+is_bad Kind.Vote = false
+is_bad Kind.Timeout = false
+is_bad Kind.Tc = false
+is_bad Kind.Loopback = false
+is_bad Kind.Tick = false
 
-abbrev pub bySetup : Seat → List ℕ → State → Bool → List ℕ → Kind → Setup → Stage
-bySetup seat stakes s room r k Setup.Bad = cond (isStart k) (startedIn seat stakes s room r) (ended seat stakes (refused notStarted s))
-bySetup seat stakes s room r k (Setup.Total t) = cond (isStart k) (ended seat stakes (refused startedAgain s)) (readyIn seat stakes s room r k)
+abbrev pub by_setup : Seat → List ℕ → State → Bool → List ℕ → Kind → Setup → Stage
+by_setup seat stakes s room r k Setup.Bad = cond (is_start k) (started_in seat stakes s room r) (ended seat stakes (refused not_started s))
+by_setup seat stakes s room r k (Setup.Total t) = cond (is_start k) (ended seat stakes (refused started_again s)) (ready_in seat stakes s room r k)
 
-unfoldable pub stagedOf : Seat → List ℕ → State → Bool → List ℕ → Stage
-stagedOf seat stakes s room r =
-    cond (isBad (form_of r)) (ended seat stakes (refused badRecord s))
-    (bySetup seat stakes s room r (form_of r) (startedOf seat stakes s.votes s.timeouts))
+unfoldable pub staged_of : Seat → List ℕ → State → Bool → List ℕ → Stage
+staged_of seat stakes s room r =
+    cond (is_bad (form_of r)) (ended seat stakes (refused bad_record s))
+    (by_setup seat stakes s room r (form_of r) (started_of seat stakes s.votes s.timeouts))
 
 -- ---- the last part
 
 -- once the table gave this answer and this last committed round
-unfoldable pub finishedOf : List ℕ → ℕ → State → ℕ → ℕ → ℕ → ℕ → Block → Outcome
-finishedOf m own s does first answer last b =
+unfoldable pub finished_of : List ℕ → ℕ → State → ℕ → ℕ → ℕ → ℕ → Block → Outcome
+finished_of m own s does first answer last b =
     cond (eqb does 2)
-    (cond (eqb answer 0) (voting m own b (withCore s (withCommitted s.core last))) (refused answer (withCore s (withCommitted s.core last))))
+    (cond (eqb answer 0) (voting m own b (with_core s (with_committed s.core last))) (refused answer (with_core s (with_committed s.core last))))
     (refused first s)
 
 -- ---- the table
 
 abbrev pub no_slot : Slot
-no_slot = record { used = false; digest = zeroHash; round = record { 0 = 0 }; parent = zeroHash; parent_round = record { 0 = 0 } }
+no_slot = record { used = false; digest = zero_hash; round = record { 0 = 0 }; parent = zero_hash; parent_round = record { 0 = 0 } }
 
 -- what the table is asked for: a block only where the first part goes on to it
-unfoldable pub workAt : Begun → Block → Work
-workAt b k =
-    cond (eqb b.does 2) (workFor k b.core.last_committed_round b.at)
+unfoldable pub work_at : Begun → Block → Work
+work_at b k =
+    cond (eqb b.does 2) (work_for k b.core.last_committed_round b.at)
     (record { does = b.does; block = no_slot; author = record { 0 = 0 }; last = b.core.last_committed_round; at = b.at })
 
 -- ---- the three together
 
 -- what the table is asked for, of a stage
-unfoldable pub stageWork : Stage → Block → Work
-stageWork g k =
-    cond (eqb g.does 2) (workFor k g.out.left.state.core.last_committed_round 0)
+unfoldable pub stage_work : Stage → Block → Work
+stage_work g k =
+    cond (eqb g.does 2) (work_for k g.out.left.state.core.last_committed_round 0)
     (record { does = g.does; block = no_slot; author = record { 0 = 0 }; last = g.out.left.state.core.last_committed_round; at = 0 })
 
 abbrev pub followed : Stage → Settlement → Outcome → Result
@@ -180,56 +180,56 @@ followed g p o =
 abbrev pub concluded : Stage → Block → Settlement → Result
 concluded g k p =
     followed g p
-    (finishedOf (members_of g.seat g.stakes) g.seat.own.0 g.out.left.state g.does g.out.answer p.answer p.last k)
+    (finished_of (members_of g.seat g.stakes) g.seat.own.0 g.out.left.state g.does g.out.answer p.answer p.last k)
 
 unfoldable pub together : Stage → List Slot → Block → Result
-together g t k = concluded g k (settled_of t (stageWork g k))
+together g t k = concluded g k (settled_of t (stage_work g k))
 
 -- ---- what code did
 
 -- START's parts, once they are written
 pub record Filled (r stakes votes timeouts stakes' votes' timeouts' : List ℕ) : Type 0 where
-  pub members : stakes' ≡ loadedStakes (length stakes) (drop 2 r)
+  pub members : stakes' ≡ loaded_stakes (length stakes) (drop 2 r)
   pub no-votes : votes' ≡ zeros (length votes)
   pub no-timeouts : timeouts' ≡ zeros (length timeouts)
 
 -- what START is known to be before it is
 pub record Boots (r : List ℕ) (stakes votes timeouts out : ℕ) (total : Stake) : Type 0 where
   pub sizes : sized stakes votes timeouts ≡ true
-  pub setup : setupAt (drop 2 r) ≡ Setup.Total total
-  pub room : announcedMost ≤ out
+  pub setup : setup_at (drop 2 r) ≡ Setup.Total total
+  pub room : announced_most ≤ out
 
 -- what goes by value, as code makes it
-abbrev pub earlyBegun : Seat → Core → ℕ → Begun
-earlyBegun seat core answer = record { seat = seat; answer = answer; core = core; at = 0; does = 0; need = record { 0 = 0 } }
+abbrev pub early_begun : Seat → Core → ℕ → Begun
+early_begun seat core answer = record { seat = seat; answer = answer; core = core; at = 0; does = 0; need = record { 0 = 0 } }
 
-abbrev pub ranHanded : Ran → Handed
-ranHanded r = record { answer = r.answer; core = r.core; at = r.at; does = 0 }
+abbrev pub ran_handed : Ran → Handed
+ran_handed r = record { answer = r.answer; core = r.core; at = r.at; does = 0 }
 
-abbrev pub handedBegun : Seat → Stake → Handed → Begun
-handedBegun seat need h = record { seat = seat; answer = h.answer; core = h.core; at = h.at; does = h.does; need = need }
+abbrev pub handed_begun : Seat → Stake → Handed → Begun
+handed_begun seat need h = record { seat = seat; answer = h.answer; core = h.core; at = h.at; does = h.does; need = need }
 
 -- what the parts after the first may rely on, where there is a block
 pub record Going (m : List ℕ) (own : ℕ) (r votes timeouts : List ℕ) (at : ℕ) : Type 0 where
   pub sound : Sound m own votes timeouts
-  pub round : (block_of r).round.0 ≤ roundMax
-  pub qcRound : (block_of r).qc_round.0 ≤ roundMax
-  pub tcRound : (block_of r).tc_round.0 ≤ roundMax
+  pub round : (block_of r).round.0 ≤ round_max
+  pub qc_round : (block_of r).qc_round.0 ≤ round_max
+  pub tc_round : (block_of r).tc_round.0 ≤ round_max
   pub short : at ≤ 8
 
 -- the first part writes at most this much
-abbrev pub firstMost : ℕ
-firstMost = 1433
+abbrev pub first_most : ℕ
+first_most = 1433
 
 pub record Handles (h : Handled) (m : List ℕ) (own : ℕ) (r before : List ℕ) (x : Handed) (votes timeouts after : List ℕ) : Type 0 where
   pub does : x.does ≡ h.does
   pub answer : x.answer ≡ h.out.answer
-  pub did : Did firstMost h.out.left before 0 x.core votes timeouts after x.at
+  pub did : Did first_most h.out.left before 0 x.core votes timeouts after x.at
   pub going : x.does ≡ 2 → Going m own r votes timeouts x.at
 
 pub record Ongoing (b : Begun) (r stakes votes timeouts : List ℕ) : Type 0 where
   pub few : b.seat.count ≤ length stakes
-  pub need : b.need.0 ≡ quorumOf (members_of b.seat stakes)
+  pub need : b.need.0 ≡ quorum_of (members_of b.seat stakes)
   pub going : Going (members_of b.seat stakes) b.seat.own.0 r votes timeouts b.at
 
 pub record Begins (g : Stage) (room : Bool) (r before : List ℕ) (b : Begun) (stakes votes timeouts after : List ℕ) : Type 0 where
@@ -237,14 +237,14 @@ pub record Begins (g : Stage) (room : Bool) (r before : List ℕ) (b : Begun) (s
   pub sits : b.seat ≡ g.seat
   pub held : stakes ≡ g.stakes
   pub answer : b.answer ≡ g.out.answer
-  pub did : Did firstMost g.out.left before 0 b.core votes timeouts after b.at
+  pub did : Did first_most g.out.left before 0 b.core votes timeouts after b.at
   pub fits : b.at ≤ length before
   pub going : b.does ≡ 2 → (room ≡ true) × Ongoing b r stakes votes timeouts
 
 -- what the last part asks for, where there is a block
 pub record Finishable (b : Begun) (s : Settled) (r stakes votes timeouts : List ℕ) (out : ℕ) : Type 0 where
   pub going : b.does ≡ 2 → Ongoing b r stakes votes timeouts
-  pub room : b.does ≡ 2 → s.at + votingMost ≤ out
+  pub room : b.does ≡ 2 → s.at + voting_most ≤ out
 
 pub record Finishes (o : Outcome) (k : ℕ) (seat : Seat) (before : List ℕ) (at : ℕ) (r : Stepped) (votes timeouts after : List ℕ) : Type 0 where
   pub answer : r.answer ≡ o.answer

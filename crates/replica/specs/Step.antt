@@ -7,32 +7,32 @@
 --     stepped w room r           one event
 --     laid x out                 a result laid into a buffer: every byte of it
 use Rattle.std.specs.Prelude.{ℕ, ◌+◌, Bool, cond, List, [], ◌∷◌, ◌++◌, eqb, length, drop, replicate}
-use Rattle.certificates.specs.Numbers.{zeroHash}
-use Rattle.certificates.specs.Config.{membersMax}
-use Rattle.certificates.specs.Start.{memberCount, ownPlace, setupAt, loadedStakes}
-use Rattle.certificates.specs.Error.{badRecord, badSetup, noRoom, notStarted, startedAgain}
+use Rattle.certificates.specs.Numbers.{zero_hash}
+use Rattle.certificates.specs.Config.{members_max}
+use Rattle.certificates.specs.Start.{member_count, own_place, setup_at, loaded_stakes}
+use Rattle.certificates.specs.Error.{bad_record, bad_setup, no_room, not_started, started_again}
 use Rattle.certificates.specs.declared.config.Setup.{Setup}
 use Rattle.trace.specs.declared.events.Kind.{Kind}
 use Rattle.trace.specs.declared.events.Block.{Block}
 use Rattle.trace.specs.Form.{form_of}
-use Rattle.trace.specs.Limits.{limitOf}
-use Rattle.trace.specs.Fields.{voteOf, timeoutOf, block_of}
-use Rattle.trace.specs.Layout.{tcBody, tcRound, payloadOf}
-use Rattle.outputs.specs.Records.{Rec, timerReset, encAll, timerResetSize, makeSize}
-use Rattle.aggregator.specs.Tallies.{votesLength, timeoutsLength}
+use Rattle.trace.specs.Limits.{limit_of}
+use Rattle.trace.specs.Fields.{vote_of, timeout_of, block_of}
+use Rattle.trace.specs.Layout.{tc_body, tc_round, payload_of}
+use Rattle.outputs.specs.Records.{Rec, timer_reset, enc_all, timer_reset_size, make_size}
+use Rattle.aggregator.specs.Tallies.{votes_length, timeouts_length}
 use Rattle.synchronizer.specs.declared.table.Slot.{Slot}
 use Rattle.synchronizer.specs.Table.{cleared}
 use Rattle.moves.specs.declared.state.Core.{Core}
 use Rattle.moves.specs.State.{State, whole}
 use Rattle.moves.specs.Outcome.{Outcome}
-use Rattle.moves.specs.Moves.{makeOf}
+use Rattle.moves.specs.Moves.{make_of}
 use Rattle.replica.specs.declared.started.Seat.{Seat}
 use Rattle.replica.specs.declared.stages.Stepped.{Stepped}
-use Rattle.replica.specs.Started.{members_of, startedOf, sized, roomy}
-use Rattle.handlers.specs.Votes.{handledVote}
-use Rattle.handlers.specs.Timeouts.{handledTimeout, handledTC, handledTick}
-use Rattle.handlers.specs.Proposals.{Proposal, proposalOf}
-use Rattle.replica.specs.Blocks.{processed, processedTable, goingOn, goingOnTable}
+use Rattle.replica.specs.Started.{members_of, started_of, sized, roomy}
+use Rattle.handlers.specs.Votes.{handled_vote}
+use Rattle.handlers.specs.Timeouts.{handled_timeout, handled_tc, handled_tick}
+use Rattle.handlers.specs.Proposals.{Proposal, proposal_of}
+use Rattle.replica.specs.Blocks.{processed, processed_table, going_on, going_on_table}
 
 pub record World : Type 0 where
   pub seat : Seat
@@ -46,8 +46,8 @@ pub record Result : Type 0 where
   pub outs : List Rec
 
 -- an early refusal: no state changes, no output is written
-abbrev pub refusedIn : ℕ → World → Result
-refusedIn n w = record { answer = n; world = w; outs = [] }
+abbrev pub refused_in : ℕ → World → Result
+refused_in n w = record { answer = n; world = w; outs = [] }
 
 -- an outcome, with the table that it leaves
 abbrev pub in_world : World → List Slot → Outcome → Result
@@ -61,97 +61,97 @@ in_world w t o =
 -- ---- START
 
 -- "round 1, last voted 0, last committed 0, high QC genesis"
-abbrev pub newCore : Core
-newCore =
+abbrev pub new_core : Core
+new_core =
     record {
       round = record { 0 = 1 };
       last_voted_round = record { 0 = 0 };
       last_committed_round = record { 0 = 0 };
-      high_qc = record { hash = zeroHash; round = record { 0 = 0 }; signers = record { 0 = 0 } };
+      high_qc = record { hash = zero_hash; round = record { 0 = 0 }; signers = record { 0 = 0 } };
     }
 
-abbrev pub newSeat : List ℕ → Seat
-newSeat r = record { count = memberCount (drop 2 r); own = record { 0 = ownPlace (drop 2 r) } }
+abbrev pub new_seat : List ℕ → Seat
+new_seat r = record { count = member_count (drop 2 r); own = record { 0 = own_place (drop 2 r) } }
 
 -- "tallies and table empty": the whole record is new, and every slot of the lent table becomes zeros
-abbrev pub newState : State
-newState = whole newCore (replicate votesLength 0) (replicate timeoutsLength 0)
+abbrev pub new_state : State
+new_state = whole new_core (replicate votes_length 0) (replicate timeouts_length 0)
 
-unfoldable pub newStakes : List ℕ → List ℕ
-newStakes r = loadedStakes membersMax (drop 2 r)
+unfoldable pub new_stakes : List ℕ → List ℕ
+new_stakes r = loaded_stakes members_max (drop 2 r)
 
 -- "TIMER RESET; MAKE without TC if own place leads round 1."
 unfoldable pub announced : List ℕ → ℕ → Core → List Rec
-announced m own c = timerReset ∷ makeOf m own c
+announced m own c = timer_reset ∷ make_of m own c
 
-abbrev pub announcedMost : ℕ
-announcedMost = timerResetSize + makeSize
+abbrev pub announced_most : ℕ
+announced_most = timer_reset_size + make_size
 
-abbrev pub startOuts : List ℕ → List Rec
-startOuts r = announced (members_of (newSeat r) (newStakes r)) (newSeat r).own.0 newCore
+abbrev pub start_outs : List ℕ → List Rec
+start_outs r = announced (members_of (new_seat r) (new_stakes r)) (new_seat r).own.0 new_core
 
-abbrev pub begunBy : World → List ℕ → Setup → Result
-begunBy w r Setup.Bad = refusedIn badSetup w
-begunBy w r (Setup.Total t) =
+abbrev pub begun_by : World → List ℕ → Setup → Result
+begun_by w r Setup.Bad = refused_in bad_setup w
+begun_by w r (Setup.Total t) =
     record {
       answer = 0;
-      world = record { seat = newSeat r; stakes = newStakes r; state = newState; table = cleared w.table };
-      outs = startOuts r;
+      world = record { seat = new_seat r; stakes = new_stakes r; state = new_state; table = cleared w.table };
+      outs = start_outs r;
     }
 
 unfoldable pub begun : World → List ℕ → Result
-begun w r = begunBy w r (setupAt (drop 2 r))
+begun w r = begun_by w r (setup_at (drop 2 r))
 
 -- ---- the other six
 
 abbrev pub committee : World → List ℕ
 committee w = members_of w.seat w.stakes
 
-abbrev pub goneOn : World → Block → Proposal → Result
-goneOn w b p = in_world w (goingOnTable w.table b p) (goingOn (committee w) w.seat.own.0 w.table b p)
+abbrev pub gone_on : World → Block → Proposal → Result
+gone_on w b p = in_world w (going_on_table w.table b p) (going_on (committee w) w.seat.own.0 w.table b p)
 
 abbrev pub handled : World → List ℕ → Kind → Result
-handled w r Kind.Bad = refusedIn badRecord w
-handled w r Kind.Start = refusedIn startedAgain w
-handled w r Kind.Propose = goneOn w (block_of r) (proposalOf (committee w) w.state (block_of r) r (payloadOf r))
-handled w r Kind.Vote = in_world w w.table (handledVote (committee w) w.seat.own.0 w.state (voteOf r))
-handled w r Kind.Timeout = in_world w w.table (handledTimeout (committee w) w.seat.own.0 w.state (timeoutOf r) r)
-handled w r Kind.Tc = in_world w w.table (handledTC (committee w) w.seat.own.0 w.state (tcRound r tcBody) r)
+handled w r Kind.Bad = refused_in bad_record w
+handled w r Kind.Start = refused_in started_again w
+handled w r Kind.Propose = gone_on w (block_of r) (proposal_of (committee w) w.state (block_of r) r (payload_of r))
+handled w r Kind.Vote = in_world w w.table (handled_vote (committee w) w.seat.own.0 w.state (vote_of r))
+handled w r Kind.Timeout = in_world w w.table (handled_timeout (committee w) w.seat.own.0 w.state (timeout_of r) r)
+handled w r Kind.Tc = in_world w w.table (handled_tc (committee w) w.seat.own.0 w.state (tc_round r tc_body) r)
 handled w r Kind.Loopback =
-    in_world w (processedTable w.table (block_of r) w.state) (processed (committee w) w.seat.own.0 w.table (block_of r) w.state)
-handled w r Kind.Tick = in_world w w.table (handledTick (committee w) w.seat.own.0 w.state)
+    in_world w (processed_table w.table (block_of r) w.state) (processed (committee w) w.seat.own.0 w.table (block_of r) w.state)
+handled w r Kind.Tick = in_world w w.table (handled_tick (committee w) w.seat.own.0 w.state)
 
 -- ---- the order of refusals
 
 abbrev pub started : World → Setup
-started w = startedOf w.seat w.stakes w.state.votes w.state.timeouts
+started w = started_of w.seat w.stakes w.state.votes w.state.timeouts
 
-abbrev pub sizedIn : World → Bool
-sizedIn w = sized (length w.stakes) (length w.state.votes) (length w.state.timeouts)
+abbrev pub sized_in : World → Bool
+sized_in w = sized (length w.stakes) (length w.state.votes) (length w.state.timeouts)
 
 -- a record of START: 34, 18, 17. Lent memory of other sizes cannot hold a replica: 18
-abbrev pub onStart : World → ℕ → List ℕ → Setup → Result
-onStart w room r (Setup.Total t) = refusedIn startedAgain w
-onStart w room r Setup.Bad = cond (roomy (length w.table) room) (cond (sizedIn w) (begun w r) (refusedIn noRoom w)) (refusedIn noRoom w)
+abbrev pub on_start : World → ℕ → List ℕ → Setup → Result
+on_start w room r (Setup.Total t) = refused_in started_again w
+on_start w room r Setup.Bad = cond (roomy (length w.table) room) (cond (sized_in w) (begun w r) (refused_in no_room w)) (refused_in no_room w)
 
 -- any other: 33, 18, then 32, 20, 19
-abbrev pub onOther : World → ℕ → List ℕ → Kind → Setup → Result
-onOther w room r k Setup.Bad = refusedIn notStarted w
-onOther w room r k (Setup.Total t) =
-    cond (roomy (length w.table) room) (cond (eqb (limitOf r k) 0) (handled w r k) (refusedIn (limitOf r k) w)) (refusedIn noRoom w)
+abbrev pub on_other : World → ℕ → List ℕ → Kind → Setup → Result
+on_other w room r k Setup.Bad = refused_in not_started w
+on_other w room r k (Setup.Total t) =
+    cond (roomy (length w.table) room) (cond (eqb (limit_of r k) 0) (handled w r k) (refused_in (limit_of r k) w)) (refused_in no_room w)
 
-abbrev pub onKind : World → ℕ → List ℕ → Kind → Result
-onKind w room r Kind.Bad = refusedIn badRecord w
-onKind w room r Kind.Start = onStart w room r (started w)
-onKind w room r Kind.Propose = onOther w room r Kind.Propose (started w)
-onKind w room r Kind.Vote = onOther w room r Kind.Vote (started w)
-onKind w room r Kind.Timeout = onOther w room r Kind.Timeout (started w)
-onKind w room r Kind.Tc = onOther w room r Kind.Tc (started w)
-onKind w room r Kind.Loopback = onOther w room r Kind.Loopback (started w)
-onKind w room r Kind.Tick = onOther w room r Kind.Tick (started w)
+abbrev pub on_kind : World → ℕ → List ℕ → Kind → Result
+on_kind w room r Kind.Bad = refused_in bad_record w
+on_kind w room r Kind.Start = on_start w room r (started w)
+on_kind w room r Kind.Propose = on_other w room r Kind.Propose (started w)
+on_kind w room r Kind.Vote = on_other w room r Kind.Vote (started w)
+on_kind w room r Kind.Timeout = on_other w room r Kind.Timeout (started w)
+on_kind w room r Kind.Tc = on_other w room r Kind.Tc (started w)
+on_kind w room r Kind.Loopback = on_other w room r Kind.Loopback (started w)
+on_kind w room r Kind.Tick = on_other w room r Kind.Tick (started w)
 
 unfoldable pub stepped : World → ℕ → List ℕ → Result
-stepped w room r = onKind w room r (form_of r)
+stepped w room r = on_kind w room r (form_of r)
 
 -- ---- every byte
 
@@ -167,14 +167,14 @@ laid x out =
     record {
       answer = x.answer;
       world = x.world;
-      written = length (encAll x.outs);
-      out = encAll x.outs ++ drop (length (encAll x.outs)) out;
+      written = length (enc_all x.outs);
+      out = enc_all x.outs ++ drop (length (enc_all x.outs)) out;
     }
 
 -- what code hands back
 abbrev pub world : Seat → List ℕ → Core → List ℕ → List ℕ → List Slot → World
 world seat stakes core votes timeouts table = record { seat = seat; stakes = stakes; state = whole core votes timeouts; table = table }
 
-abbrev pub leftBy : Stepped → List ℕ → List ℕ → List ℕ → List Slot → List ℕ → Left
-leftBy r stakes votes timeouts table out =
+abbrev pub left_by : Stepped → List ℕ → List ℕ → List ℕ → List Slot → List ℕ → Left
+left_by r stakes votes timeouts table out =
     record { answer = r.answer; world = world r.seat stakes r.core votes timeouts table; written = r.written; out = out }

@@ -1,19 +1,19 @@
 // An event in three parts: what needs no block, then the table, then the vote.
 ghost use Rattle.std.specs.Prelude.{◌≡◌, ◌+◌, ◌≤◌, true, length, drop};
-ghost use Rattle.certificates.specs.Config.{quorumOf};
-ghost use Rattle.certificates.specs.Start.{setupAt};
+ghost use Rattle.certificates.specs.Config.{quorum_of};
+ghost use Rattle.certificates.specs.Start.{setup_at};
 ghost use Rattle.certificates.specs.declared.config.Setup.TheVariants.{Total};
 ghost use Rattle.trace.specs.declared.events.Kind.TheVariants.{Propose};
-ghost use Rattle.trace.specs.Limits.{limitOf};
+ghost use Rattle.trace.specs.Limits.{limit_of};
 ghost use Rattle.trace.specs.Fields.{block_of};
 ghost use Rattle.outputs.specs.Put.{Wrote};
 ghost use Rattle.moves.specs.State.{whole};
 ghost use Rattle.handlers.specs.Sound.{Sound};
-ghost use Rattle.handlers.specs.Votes.{voting, votingMost};
-ghost use Rattle.replica.specs.Started.{members_of, sized, startedOf, roomy};
-ghost use Rattle.replica.specs.Blocks.{slotFor};
-ghost use Rattle.replica.specs.Step.{newCore, newSeat, announced, announcedMost};
-ghost use Rattle.replica.specs.Stages.{handledIn, readyIn, Filled, Boots, bootedBy, bootingOf, startedIn, isStart, isBad, stagedOf, finishedOf, no_slot, workAt, earlyBegun, ranHanded, handedBegun, firstMost, Handles, Begins, Ongoing, Finishable, Finishes};
+ghost use Rattle.handlers.specs.Votes.{voting, voting_most};
+ghost use Rattle.replica.specs.Started.{members_of, sized, started_of, roomy};
+ghost use Rattle.replica.specs.Blocks.{slot_for};
+ghost use Rattle.replica.specs.Step.{new_core, new_seat, announced, announced_most};
+ghost use Rattle.replica.specs.Stages.{handled_in, ready_in, Filled, Boots, booted_by, booting_of, started_in, is_start, is_bad, staged_of, finished_of, no_slot, work_at, early_begun, ran_handed, handed_begun, first_most, Handles, Begins, Ongoing, Finishable, Finishes};
 
 use crate::started::{Seat, is_roomy, is_sized, total_of};
 use aggregator::tallies::clear;
@@ -35,7 +35,7 @@ use trace::events::{
 };
 
 // What a handler leaves, and what is to be done with the table: 0 nothing, 2 the record's block.
-#[derive(Drop)]
+#[derive(Clone, Copy)]
 pub struct Handed {
     pub answer: u16,
     pub core: Core,
@@ -45,7 +45,7 @@ pub struct Handed {
 
 // What the first part leaves, and what is to be done with the table: 0 nothing, 1 clear it, 2 the
 // record's block, for which the quorum is kept.
-#[derive(Drop)]
+#[derive(Clone, Copy)]
 pub struct Begun {
     pub seat: Seat,
     pub answer: u16,
@@ -57,7 +57,7 @@ pub struct Begun {
 
 // What an event leaves: the answer, the part of the record that goes by value, and how many bytes
 // were written.
-#[derive(Drop)]
+#[derive(Clone, Copy)]
 pub struct Stepped {
     pub answer: u16,
     pub seat: Seat,
@@ -68,7 +68,7 @@ pub struct Stepped {
 // ---- the first part
 
 fn early(seat: Seat, core: Core, answer: u16) -> Begun
-    ensures { result ≡ earlyBegun seat core answer }
+    ensures { result ≡ early_begun seat core answer }
 {
     Begun {
         seat,
@@ -81,7 +81,7 @@ fn early(seat: Seat, core: Core, answer: u16) -> Begun
 }
 
 fn of_ran(r: Ran) -> Handed
-    ensures { result ≡ ranHanded r }
+    ensures { result ≡ ran_handed r }
 {
     let core = r.core;
     Handed {
@@ -93,7 +93,7 @@ fn of_ran(r: Ran) -> Handed
 }
 
 fn of_handed(seat: Seat, need: Stake, h: Handed) -> Begun
-    ensures { result ≡ handedBegun seat need h }
+    ensures { result ≡ handed_begun seat need h }
 {
     let core = h.core;
     Begun {
@@ -107,7 +107,7 @@ fn of_handed(seat: Seat, need: Stake, h: Handed) -> Begun
 }
 
 fn new_core() -> Core
-    ensures { result ≡ newCore }
+    ensures { result ≡ new_core }
 {
     let zero = Hash {
         a: 0,
@@ -130,8 +130,8 @@ fn new_core() -> Core
 
 // TIMER RESET; MAKE without TC if the own place leads round 1.
 fn announce(members: &[u32], own: Place, core: Core, out: &mut [u8]) -> usize
-    requires { announcedMost ≤ length out.old }
-    ensures { Wrote announcedMost (announced members.now own.0 core) out.old 0 out.new result }
+    requires { announced_most ≤ length out.old }
+    ensures { Wrote announced_most (announced members.now own.0 core) out.old 0 out.new result }
 {
     let a = put_timer_reset(out, 0);
     generate_proposal(members, own, core, out, a)
@@ -139,7 +139,7 @@ fn announce(members: &[u32], own: Place, core: Core, out: &mut [u8]) -> usize
 
 // The committee's seat in a record of START.
 fn seat_of(input: &[u8]) -> Seat
-    ensures { result ≡ newSeat input.now }
+    ensures { result ≡ new_seat input.now }
 {
     let body = body_of(input);
     let count = member_count(body);
@@ -168,7 +168,7 @@ fn boot(
     total: Stake,
 ) -> Begun
     requires { Boots input.now (length stakes.old) (length votes.old) (length timeouts.old) (length out.old) total }
-    ensures { Begins (bootedBy seat stakes.old (whole core votes.old timeouts.old) input.now (Total total)) true input.now out.old result stakes.new votes.new timeouts.new out.new }
+    ensures { Begins (booted_by seat stakes.old (whole core votes.old timeouts.old) input.now (Total total)) true input.now out.old result stakes.new votes.new timeouts.new out.new }
 {
     let taken = seat_of(input);
     fill(stakes, votes, timeouts, input);
@@ -186,7 +186,7 @@ fn boot(
 }
 
 // What a record of START meets: 18, 17, or a good setup. Memory of other sizes cannot hold a replica.
-#[derive(Drop)]
+#[derive(Clone, Copy)]
 pub enum Booting {
     NoRoom,
     BadSetup,
@@ -201,7 +201,7 @@ fn booting_of(
     room: usize,
     input: &[u8],
 ) -> Booting
-    ensures { result ≡ bootingOf (roomy slots room) (sized stakes votes timeouts) (setupAt (drop 2 input.now)) }
+    ensures { result ≡ booting_of (roomy slots room) (sized stakes votes timeouts) (setup_at (drop 2 input.now)) }
 {
     if is_roomy(slots, room) {
         if is_sized(stakes, votes, timeouts) {
@@ -230,7 +230,7 @@ fn start(
     core: Core,
     slots: usize,
 ) -> Begun
-    ensures { Begins (startedIn seat stakes.old (whole core votes.old timeouts.old) (roomy slots (length out.old)) input.now) (roomy slots (length out.old)) input.now out.old result stakes.new votes.new timeouts.new out.new }
+    ensures { Begins (started_in seat stakes.old (whole core votes.old timeouts.old) (roomy slots (length out.old)) input.now) (roomy slots (length out.old)) input.now out.old result stakes.new votes.new timeouts.new out.new }
 {
     match booting_of(
         stakes.len(),
@@ -257,8 +257,8 @@ fn propose(
     out: &mut [u8],
     input: &[u8],
 ) -> Handed
-    requires { Sound members.now own.0 votes.old timeouts.old × (need.0 ≡ quorumOf members.now) × (limitOf input.now Propose ≡ 0) × (firstMost ≤ length out.old) }
-    ensures { Handles (handledIn members.now own.0 (whole core votes.old timeouts.old) input.now Propose) members.now own.0 input.now out.old result votes.new timeouts.new out.new }
+    requires { Sound members.now own.0 votes.old timeouts.old × (need.0 ≡ quorum_of members.now) × (limit_of input.now Propose ≡ 0) × (first_most ≤ length out.old) }
+    ensures { Handles (handled_in members.now own.0 (whole core votes.old timeouts.old) input.now Propose) members.now own.0 input.now out.old result votes.new timeouts.new out.new }
 {
     let b = block_of(input);
     let payload = payload_of(input);
@@ -292,8 +292,8 @@ fn handle(
     input: &[u8],
     kind: Kind,
 ) -> Handed
-    requires { Sound members.now own.0 votes.old timeouts.old × (need.0 ≡ quorumOf members.now) × (limitOf input.now kind ≡ 0) × (firstMost ≤ length out.old) }
-    ensures { Handles (handledIn members.now own.0 (whole core votes.old timeouts.old) input.now kind) members.now own.0 input.now out.old result votes.new timeouts.new out.new }
+    requires { Sound members.now own.0 votes.old timeouts.old × (need.0 ≡ quorum_of members.now) × (limit_of input.now kind ≡ 0) × (first_most ≤ length out.old) }
+    ensures { Handles (handled_in members.now own.0 (whole core votes.old timeouts.old) input.now kind) members.now own.0 input.now out.old result votes.new timeouts.new out.new }
 {
     match kind {
         Kind::Bad => Handed {
@@ -344,8 +344,8 @@ fn ready(
     total: Stake,
     kind: Kind,
 ) -> Begun
-    requires { startedOf seat stakes.now votes.old timeouts.old ≡ Total total }
-    ensures { Begins (readyIn seat stakes.now (whole core votes.old timeouts.old) (roomy slots (length out.old)) input.now kind) (roomy slots (length out.old)) input.now out.old result stakes.now votes.new timeouts.new out.new }
+    requires { started_of seat stakes.now votes.old timeouts.old ≡ Total total }
+    ensures { Begins (ready_in seat stakes.now (whole core votes.old timeouts.old) (roomy slots (length out.old)) input.now kind) (roomy slots (length out.old)) input.now out.old result stakes.now votes.new timeouts.new out.new }
 {
     if is_roomy(slots, out.len()) {
         let limit = limit_of(input, kind);
@@ -371,7 +371,7 @@ fn ready(
 }
 
 fn is_start(kind: Kind) -> bool
-    ensures { result ≡ isStart kind }
+    ensures { result ≡ is_start kind }
 {
     match kind {
         Kind::Start => true,
@@ -387,7 +387,7 @@ fn is_start(kind: Kind) -> bool
 
 // Whether a record had no form.
 pub fn is_bad(kind: Kind) -> bool
-    ensures { result ≡ isBad kind }
+    ensures { result ≡ is_bad kind }
 {
     match kind {
         Kind::Bad => true,
@@ -412,7 +412,7 @@ pub fn begin(
     core: Core,
     slots: usize,
 ) -> Begun
-    ensures { Begins (stagedOf seat stakes.old (whole core votes.old timeouts.old) (roomy slots (length out.old)) input.now) (roomy slots (length out.old)) input.now out.old result stakes.new votes.new timeouts.new out.new }
+    ensures { Begins (staged_of seat stakes.old (whole core votes.old timeouts.old) (roomy slots (length out.old)) input.now) (roomy slots (length out.old)) input.now out.old result stakes.new votes.new timeouts.new out.new }
 {
     let kind = form_of(input);
     if is_bad(kind) {
@@ -458,7 +458,7 @@ fn no_slot() -> Slot
 
 // A block as it is stored.
 fn slot_of(k: Block) -> Slot
-    ensures { result ≡ slotFor k }
+    ensures { result ≡ slot_for k }
 {
     let digest = k.digest;
     let round = k.round;
@@ -475,7 +475,7 @@ fn slot_of(k: Block) -> Slot
 
 // What the table is asked for.
 pub fn work_of(input: &[u8], b: Begun) -> Work
-    ensures { result ≡ workAt b (block_of input.now) }
+    ensures { result ≡ work_at b (block_of input.now) }
 {
     let core = b.core;
     let last = core.last_committed_round;
@@ -514,8 +514,8 @@ fn conclude(
     core: Core,
     at: usize,
 ) -> Stepped
-    requires { Ongoing b input.now stakes.now votes.old timeouts.old × (at + votingMost ≤ length out.old) }
-    ensures { Finishes (voting (members_of b.seat stakes.now) b.seat.own.0 (block_of input.now) (whole core votes.old timeouts.old)) votingMost b.seat out.old at result votes.new timeouts.new out.new }
+    requires { Ongoing b input.now stakes.now votes.old timeouts.old × (at + voting_most ≤ length out.old) }
+    ensures { Finishes (voting (members_of b.seat stakes.now) b.seat.own.0 (block_of input.now) (whole core votes.old timeouts.old)) voting_most b.seat out.old at result votes.new timeouts.new out.new }
 {
     let seat = b.seat;
     let n = seat.count as usize;
@@ -551,7 +551,7 @@ pub fn finish(
     s: Settled,
 ) -> Stepped
     requires { Finishable b s input.now stakes.now votes.old timeouts.old (length out.old) }
-    ensures { Finishes (finishedOf (members_of b.seat stakes.now) b.seat.own.0 (whole b.core votes.old timeouts.old) b.does b.answer s.answer s.last.0 (block_of input.now)) votingMost b.seat out.old s.at result votes.new timeouts.new out.new }
+    ensures { Finishes (finished_of (members_of b.seat stakes.now) b.seat.own.0 (whole b.core votes.old timeouts.old) b.does b.answer s.answer s.last.0 (block_of input.now)) voting_most b.seat out.old s.at result votes.new timeouts.new out.new }
 {
     let seat = b.seat;
     let core = b.core;

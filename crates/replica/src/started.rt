@@ -1,8 +1,8 @@
 // 01, Members: whether what was handed in counts as started; and the room that an event needs.
 ghost use Rattle.std.specs.Prelude.{◌≡◌, length};
 ghost use Rattle.certificates.specs.declared.config.Setup.TheVariants.{Total};
-ghost use Rattle.aggregator.specs.Tallies.{votesLength, timeoutsLength};
-ghost use Rattle.replica.specs.Started.{sized, shaped, lightIn, startedOf, roomy};
+ghost use Rattle.aggregator.specs.Tallies.{votes_length, timeouts_length};
+ghost use Rattle.replica.specs.Started.{sized, shaped, light_in, started_of, roomy};
 
 use aggregator::tallies::{TIMEOUT_TALLIES, TIMEOUT_WIDTH, VOTE_TALLIES, VOTE_WIDTH, are_light};
 use certificates::config::{MEMBERS_MAX, Setup, total_stake};
@@ -15,7 +15,7 @@ pub const SLOTS_MAX: usize = 1024;
 pub const ROOM: usize = 2048;
 
 // What START fixes: the number of members, and the own place.
-#[derive(Drop)]
+#[derive(Clone, Copy)]
 pub struct Seat {
     pub count: u16,
     pub own: Place,
@@ -46,8 +46,8 @@ fn is_shaped(seat: Seat, stakes: usize, votes: usize, timeouts: usize) -> bool
 }
 
 fn light_in(votes: &[u64], timeouts: &[u64], total: Stake) -> Setup
-    requires { (length votes.now ≡ votesLength) × (length timeouts.now ≡ timeoutsLength) }
-    ensures { result ≡ lightIn votes.now timeouts.now (Total total) }
+    requires { (length votes.now ≡ votes_length) × (length timeouts.now ≡ timeouts_length) }
+    ensures { result ≡ light_in votes.now timeouts.now (Total total) }
 {
     if are_light(votes, timeouts, total) {
         Setup::Total(total)
@@ -58,7 +58,7 @@ fn light_in(votes: &[u64], timeouts: &[u64], total: Stake) -> Setup
 
 // The total stake, where the record counts as started. It is asked on every event.
 pub fn total_of(seat: Seat, stakes: &[u32], votes: &[u64], timeouts: &[u64]) -> Setup
-    ensures { result ≡ startedOf seat stakes.now votes.now timeouts.now }
+    ensures { result ≡ started_of seat stakes.now votes.now timeouts.now }
 {
     if is_shaped(seat, stakes.len(), votes.len(), timeouts.len()) {
         let n = seat.count as usize;

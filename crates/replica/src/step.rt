@@ -1,12 +1,12 @@
 // The public entry: any record, any lent memory. The record may be a part of what is lent.
 ghost use Rattle.std.specs.Prelude.{◌≡◌, ◌≤◌, length};
-ghost use Rattle.handlers.specs.Votes.{votingMost};
+ghost use Rattle.handlers.specs.Votes.{voting_most};
 ghost use Rattle.trace.specs.Fields.{block_of};
 ghost use Rattle.moves.specs.State.{whole};
 ghost use Rattle.replica.specs.Started.{members_of, room_for, roomy};
-ghost use Rattle.replica.specs.Step.{leftBy, laid, world, stepped};
-ghost use Rattle.replica.specs.Stages.{stagedOf, finishedOf, workAt, Begins, Finishable, Finishes};
-ghost use Rattle.replica.specs.Order.{recordIn, orderFor};
+ghost use Rattle.replica.specs.Step.{left_by, laid, world, stepped};
+ghost use Rattle.replica.specs.Stages.{staged_of, finished_of, work_at, Begins, Finishable, Finishes};
+ghost use Rattle.replica.specs.Order.{record_in, order_for};
 
 use crate::stages::{Begun, Stepped, begin, finish, work_of};
 use crate::started::Seat;
@@ -17,7 +17,7 @@ use trace::part::middle;
 
 // An event to take: the part of the replica that goes by value, and where its record lies in the
 // input, from `from` up to `to`.
-#[derive(Drop)]
+#[derive(Clone, Copy)]
 pub struct Order {
     pub seat: Seat,
     pub core: Core,
@@ -27,7 +27,7 @@ pub struct Order {
 
 // An event whose record is the whole input.
 pub(crate) fn order_of(input: &[u8], seat: Seat, core: Core) -> Order
-    ensures { result ≡ orderFor seat core (length input.now) }
+    ensures { result ≡ order_for seat core (length input.now) }
 {
     Order {
         seat,
@@ -48,7 +48,7 @@ pub(crate) fn begin_in(
     order: Order,
     slots: usize,
 ) -> Begun
-    ensures { Begins (stagedOf order.seat stakes.old (whole order.core votes.old timeouts.old) (roomy slots (length out.old)) (recordIn order input.now)) (roomy slots (length out.old)) (recordIn order input.now) out.old result stakes.new votes.new timeouts.new out.new }
+    ensures { Begins (staged_of order.seat stakes.old (whole order.core votes.old timeouts.old) (roomy slots (length out.old)) (record_in order input.now)) (roomy slots (length out.old)) (record_in order input.now) out.old result stakes.new votes.new timeouts.new out.new }
 {
     let seat = order.seat;
     let core = order.core;
@@ -57,7 +57,7 @@ pub(crate) fn begin_in(
 }
 
 pub(crate) fn work_in(input: &[u8], order: Order, b: Begun) -> Work
-    ensures { result ≡ workAt b (block_of (recordIn order input.now)) }
+    ensures { result ≡ work_at b (block_of (record_in order input.now)) }
 {
     let part = middle(input, order.from, order.to);
     work_of(part, b)
@@ -73,8 +73,8 @@ pub(crate) fn finish_in(
     b: Begun,
     s: Settled,
 ) -> Stepped
-    requires { Finishable b s (recordIn order input.now) stakes.now votes.old timeouts.old (length out.old) }
-    ensures { Finishes (finishedOf (members_of b.seat stakes.now) b.seat.own.0 (whole b.core votes.old timeouts.old) b.does b.answer s.answer s.last.0 (block_of (recordIn order input.now))) votingMost b.seat out.old s.at result votes.new timeouts.new out.new }
+    requires { Finishable b s (record_in order input.now) stakes.now votes.old timeouts.old (length out.old) }
+    ensures { Finishes (finished_of (members_of b.seat stakes.now) b.seat.own.0 (whole b.core votes.old timeouts.old) b.does b.answer s.answer s.last.0 (block_of (record_in order input.now))) voting_most b.seat out.old s.at result votes.new timeouts.new out.new }
 {
     let part = middle(input, order.from, order.to);
     finish(stakes, votes, timeouts, out, part, b, s)
@@ -94,7 +94,7 @@ pub fn step_in(
     input: &[u8],
     order: Order,
 ) -> Stepped
-    ensures { (leftBy result stakes.new votes.new timeouts.new table.new out.new ≡ laid (stepped (world order.seat stakes.old order.core votes.old timeouts.old table.old) (length out.old) (recordIn order input.now)) out.old) × (result.written ≤ room_for (length table.old)) }
+    ensures { (left_by result stakes.new votes.new timeouts.new table.new out.new ≡ laid (stepped (world order.seat stakes.old order.core votes.old timeouts.old table.old) (length out.old) (record_in order input.now)) out.old) × (result.written ≤ room_for (length table.old)) }
 {
     let slots = len_of(table);
     let b = begin_in(stakes, votes, timeouts, out, input, order, slots);
@@ -114,7 +114,7 @@ pub fn step(
     seat: Seat,
     core: Core,
 ) -> Stepped
-    ensures { (leftBy result stakes.new votes.new timeouts.new table.new out.new ≡ laid (stepped (world seat stakes.old core votes.old timeouts.old table.old) (length out.old) input.now) out.old) × (result.written ≤ room_for (length table.old)) }
+    ensures { (left_by result stakes.new votes.new timeouts.new table.new out.new ≡ laid (stepped (world seat stakes.old core votes.old timeouts.old table.old) (length out.old) input.now) out.old) × (result.written ≤ room_for (length table.old)) }
 {
     let order = order_of(input, seat, core);
     step_in(stakes, votes, timeouts, table, out, input, order)

@@ -18,38 +18,38 @@ use Rattle.certificates.specs.declared.messages.Checked.{Checked}
 use Rattle.certificates.specs.declared.messages.Checked.TheVariants.{Accepted, AuthorityReuse, UnknownAuthority, RequiresQuorum, InvalidSignature, Cut}
 use Rattle.certificates.specs.declared.messages.Authored.{Authored}
 use Rattle.certificates.specs.declared.messages.Authored.TheVariants as authored
-use Rattle.certificates.specs.Config.{stakeOf, quorumOf}
-use Rattle.certificates.specs.Numbers.{roundMax}
-use Rattle.certificates.specs.Leader.{leaderOf}
+use Rattle.certificates.specs.Config.{stake_of, quorum_of}
+use Rattle.certificates.specs.Numbers.{round_max}
+use Rattle.certificates.specs.Leader.{leader_of}
 use Rattle.certificates.specs.Signers.{member}
-use Rattle.certificates.specs.Messages.{tcCheck, embeddedCheck, authorCheck}
-use Rattle.certificates.specs.Error.{stale, waitParent, waitPayload, invalidPayload, badRecord, wrongLeader, noRoom, roundTooHigh, listTooLong, unknownAuthority, invalidSignature, authorityReuse, qcRequiresQuorum, tcRequiresQuorum, tableFull, talliesFull, ancestorAbsent, roundNotBelow, emptyTC, startedAgain, number_of, authorNumber}
+use Rattle.certificates.specs.Messages.{tc_check, embedded_check, author_check}
+use Rattle.certificates.specs.Error.{stale, wait_parent, wait_payload, invalid_payload, bad_record, wrong_leader, no_room, round_too_high, list_too_long, unknown_authority, invalid_signature, authority_reuse, qc_requires_quorum, tc_requires_quorum, table_full, tallies_full, ancestor_absent, round_not_below, empty_tc, started_again, number_of, author_number}
 use Rattle.trace.specs.declared.events.Kind.{Kind}
 use Rattle.trace.specs.declared.events.Block.{Block}
-use Rattle.trace.specs.Form.{form_of, anyAbove}
-use Rattle.trace.specs.Fields.{voteOf, timeoutOf, block_of}
-use Rattle.trace.specs.Layout.{signersMax, timeoutQC, tcBody, qcPart, tcPart, tcRound, payloadOf}
-use Rattle.trace.specs.Limits.{countsOf, roundsOf, emptyTC as hasEmptyTC, limitOf}
+use Rattle.trace.specs.Form.{form_of, any_above}
+use Rattle.trace.specs.Fields.{vote_of, timeout_of, block_of}
+use Rattle.trace.specs.Layout.{signers_max, timeout_qc, tc_body, qc_part, tc_part, tc_round, payload_of}
+use Rattle.trace.specs.Limits.{counts_of, rounds_of, empty_tc as has_empty_tc, limit_of}
 use Rattle.aggregator.specs.declared.tallies.Added.{Added}
 use Rattle.aggregator.specs.declared.tallies.Added.TheVariants.{NoRoom, Used, More, Full}
-use Rattle.aggregator.specs.Tallies.{timeoutAdded, timeoutsAfter}
+use Rattle.aggregator.specs.Tallies.{timeout_added, timeouts_after}
 use Rattle.synchronizer.specs.declared.table.Slot.{Slot}
 use Rattle.synchronizer.proofs.Lookups.{Stopped, settled-stopped}
 use Rattle.moves.specs.State.{State}
 use Rattle.moves.specs.Outcome.{Step, Outcome, done, after, refused, checked}
-use Rattle.moves.specs.Tallied.{voteTallied, afterTimeout, timeoutTallied}
+use Rattle.moves.specs.Tallied.{vote_tallied, after_timeout, timeout_tallied}
 use Rattle.moves.proofs.TallyLaws.{timeout-tallied-is}
-use Rattle.handlers.specs.Sound.{first, signersOf}
-use Rattle.handlers.specs.Votes.{voteCheck, handledVote}
-use Rattle.handlers.specs.Timeouts.{timeoutCheck, timeoutTaken, timeoutWith, handledTimeout, tcTaken, staleIf, tcWith, handledTC, ticked, ownTimeout, handledTick}
-use Rattle.handlers.specs.Proposals.{leaderCheck, qcFound, tcNumber, proposalCheck, taken, payloadNumber, byPayload, proposalOf}
+use Rattle.handlers.specs.Sound.{first, signers_of}
+use Rattle.handlers.specs.Votes.{vote_check, handled_vote}
+use Rattle.handlers.specs.Timeouts.{timeout_check, timeout_taken, timeout_with, handled_timeout, tc_taken, stale_if, tc_with, handled_tc, ticked, own_timeout, handled_tick}
+use Rattle.handlers.specs.Proposals.{leader_check, qc_found, tc_number, proposal_check, taken, payload_number, by_payload, proposal_of}
 use Rattle.handlers.proofs.VoteTheorems.{Votes, tallied-votes}
 use Rattle.handlers.proofs.ProposalTheorems.{proposal-refused, proposal-takes, certificates-keep}
 use Rattle.replica.specs.Started.{roomy}
-use Rattle.replica.specs.Blocks.{slotFor, workFor, settledFor, processed, goingOn, goingOnTable}
-use Rattle.replica.specs.Step.{World, Result, refusedIn, committee, handled, stepped}
+use Rattle.replica.specs.Blocks.{slot_for, work_for, settled_for, processed, going_on, going_on_table}
+use Rattle.replica.specs.Step.{World, Result, refused_in, committee, handled, stepped}
 use Rattle.replica.proofs.StartedLaws.{started-ready}
-use Rattle.runs.specs.Runs.{Event, stepOn, committedOf}
+use Rattle.runs.specs.Runs.{Event, step_on, committed_of}
 use Rattle.runs.specs.Passed.{Waits, Passed, Looped}
 use Rattle.runs.proofs.Late.{by-table}
 use Rattle.runs.proofs.Steps.{Started, Gives, formless, again, roomless, limited, gives, step_is}
@@ -61,23 +61,23 @@ module _ (P : ℕ → Type 0) where
 
   pub record Checks : Type 0 where
     pub passed : P 0
-    pub bad : P badRecord
-    pub round : P roundTooHigh
-    pub list : P listTooLong
-    pub leader : P wrongLeader
-    pub unknown : P unknownAuthority
-    pub signature : P invalidSignature
-    pub reuse : P authorityReuse
-    pub qc : P qcRequiresQuorum
-    pub tc : P tcRequiresQuorum
-    pub empty : P emptyTC
+    pub bad : P bad_record
+    pub round : P round_too_high
+    pub list : P list_too_long
+    pub leader : P wrong_leader
+    pub unknown : P unknown_authority
+    pub signature : P invalid_signature
+    pub reuse : P authority_reuse
+    pub qc : P qc_requires_quorum
+    pub tc : P tc_requires_quorum
+    pub empty : P empty_tc
 
   module _ (c : Checks) where
-    pub limit-in : (r : List ℕ) (k : Kind) → P (limitOf r k)
-    unfolding limitOf
+    pub limit-in : (r : List ℕ) (k : Kind) → P (limit_of r k)
+    unfolding limit_of
     limit-in r k =
-        in-cond (hasEmptyTC r k) emptyTC _ c.empty
-        (in-cond (anyAbove signersMax (countsOf r k)) listTooLong _ c.list (in-cond (anyAbove roundMax (roundsOf r k)) roundTooHigh 0 c.round c.passed))
+        in-cond (has_empty_tc r k) empty_tc _ c.empty
+        (in-cond (any_above signers_max (counts_of r k)) list_too_long _ c.list (in-cond (any_above round_max (rounds_of r k)) round_too_high 0 c.round c.passed))
 
     pub number_in : (x : Checked) (q : ℕ) → P q → P (number_of x q)
     number_in (Accepted s) q h = c.passed
@@ -87,7 +87,7 @@ module _ (P : ℕ → Type 0) where
     number_in InvalidSignature q h = c.signature
     number_in Cut q h = c.bad
 
-    pub author-in : (a : Authored) → P (authorNumber a)
+    pub author-in : (a : Authored) → P (author_number a)
     author-in (authored.Valid s) = c.passed
     author-in (authored.UnknownAuthority p) = c.unknown
     author-in authored.InvalidSignature = c.signature
@@ -95,12 +95,12 @@ module _ (P : ℕ → Type 0) where
     first-in : (a b : ℕ) → P a → P b → P (first a b)
     first-in a b h k = in-cond (eqb a 0) b a k h
 
-    pub check-in : (m : List ℕ) (b : Block) (r : List ℕ) (x : Checked) → P (proposalCheck m b r x)
-    unfolding proposalCheck leaderCheck tcNumber
+    pub check-in : (m : List ℕ) (b : Block) (r : List ℕ) (x : Checked) → P (proposal_check m b r x)
+    unfolding proposal_check leader_check tc_number
     check-in m b r x =
         first-in _ _
-        (in-cond (eqb (leaderOf m b.round.0) b.author.0) _ wrongLeader (author-in (authorCheck m b.author.0 b.verdict)) c.leader)
-        (first-in _ _ (number_in x qcRequiresQuorum c.qc) (in-cond (eqb b.tc 0) 0 _ c.passed (number_in (tcCheck m (quorumOf m) (tcPart r b.tc)) tcRequiresQuorum c.tc)))
+        (in-cond (eqb (leader_of m b.round.0) b.author.0) _ wrong_leader (author-in (author_check m b.author.0 b.verdict)) c.leader)
+        (first-in _ _ (number_in x qc_requires_quorum c.qc) (in-cond (eqb b.tc 0) 0 _ c.passed (number_in (tc_check m (quorum_of m) (tc_part r b.tc)) tc_requires_quorum c.tc)))
 
     checked-in : (n : ℕ) (s : State) (o : Outcome) → P n → P o.answer → P (checked n s o).answer
     checked-in n s o h k = cases (eqb n 0)
@@ -119,21 +119,21 @@ one_of P n x xs h rest e = cases (eqb n x) refl e
     cases true q e = rw (eqb-true n x q) h
     cases false q e = rest e
 
-module _ (P : ℕ → Type 0) (done : P 0) (reuse : P authorityReuse) (full : P talliesFull) where
+module _ (P : ℕ → Type 0) (done : P 0) (reuse : P authority_reuse) (full : P tallies_full) where
   -- what a vote may be answered with
-  pub votes-in : P unknownAuthority → (n : ℕ) → Votes n → P n
+  pub votes-in : P unknown_authority → (n : ℕ) → Votes n → P n
   unfolding member
   votes-in unknown n =
-      one_of P n 0 (unknownAuthority ∷ authorityReuse ∷ talliesFull ∷ []) done
-      (one_of P n unknownAuthority (authorityReuse ∷ talliesFull ∷ []) unknown
-      (one_of P n authorityReuse (talliesFull ∷ []) reuse (one_of P n talliesFull [] full (λ z. absurd (true≢false (sym z))))))
+      one_of P n 0 (unknown_authority ∷ authority_reuse ∷ tallies_full ∷ []) done
+      (one_of P n unknown_authority (authority_reuse ∷ tallies_full ∷ []) unknown
+      (one_of P n authority_reuse (tallies_full ∷ []) reuse (one_of P n tallies_full [] full (λ z. absurd (true≢false (sym z))))))
 
   -- and a timeout that is counted
-  pub tallied-in : (m : List ℕ) (own need : ℕ) (s : State) (round p stake high : ℕ) → P (timeoutTallied m own need s round p stake high).answer
+  pub tallied-in : (m : List ℕ) (own need : ℕ) (s : State) (round p stake high : ℕ) → P (timeout_tallied m own need s round p stake high).answer
   tallied-in m own need s round p stake high =
-      rw (timeout-tallied-is m own need s round p stake high) (cases (timeoutsAfter s.timeouts round p stake need high) (timeoutAdded s.timeouts round p stake need))
+      rw (timeout-tallied-is m own need s round p stake high) (cases (timeouts_after s.timeouts round p stake need high) (timeout_added s.timeouts round p stake need))
     where
-      cases : (t : List ℕ) (a : Added) → P (afterTimeout m own s round t a).answer
+      cases : (t : List ℕ) (a : Added) → P (after_timeout m own s round t a).answer
       cases t NoRoom = full
       cases t Used = reuse
       cases t More = done
@@ -161,50 +161,50 @@ apart =
       empty = inr (omega arith);
     }
 
-never : {A : Type 0} (n : ℕ) → Apart n → (n ≡ waitParent) ⊎ (n ≡ waitPayload) → A
+never : {A : Type 0} (n : ℕ) → Apart n → (n ≡ wait_parent) ⊎ (n ≡ wait_payload) → A
 never n a w = absurd (⊎_elim (λ e. ⊎_elim (λ z. omega arith) (λ h. omega arith) a) (λ e. ⊎_elim (λ z. omega arith) (λ h. omega arith) a) w)
 
 module _ (w : World) (e : Event) (t : Stake) (s : Started w t) where
-  abbrev checkOf : ℕ
-  checkOf = proposalCheck (committee w) (block_of e.bytes) e.bytes (qcFound (committee w) e.bytes)
+  abbrev check_of : ℕ
+  check_of = proposal_check (committee w) (block_of e.bytes) e.bytes (qc_found (committee w) e.bytes)
 
-  refused-answer : (checkOf ≡ 0 → ⊥) → (handled w e.bytes Kind.Propose).answer ≡ checkOf
-  unfolding goingOn
-  refused-answer h = rw (proposal-refused (committee w) w.state (block_of e.bytes) e.bytes (payloadOf e.bytes) h) refl
+  refused-answer : (check_of ≡ 0 → ⊥) → (handled w e.bytes Kind.Propose).answer ≡ check_of
+  unfolding going_on
+  refused-answer h = rw (proposal-refused (committee w) w.state (block_of e.bytes) e.bytes (payload_of e.bytes) h) refl
 
   -- where P holds of the numbers of checks, it holds of the answer to a PROPOSE that did not pass them
-  passed-unless : (P : ℕ → Type 0) → Checks P → P noRoom → P startedAgain → form_of e.bytes ≡ Kind.Propose → Passed w e ⊎ P (stepOn w e).answer
+  passed-unless : (P : ℕ → Type 0) → Checks P → P no_room → P started_again → form_of e.bytes ≡ Kind.Propose → Passed w e ⊎ P (step_on w e).answer
   passed-unless P c room twice k = cases (rw k at (step_is w e t s))
     where
-      at : (x : Result) → stepOn w e ≡ x → P x.answer → P (stepOn w e).answer
+      at : (x : Result) → step_on w e ≡ x → P x.answer → P (step_on w e).answer
       at x g h = rw g h
 
-      check : roomy (length w.table) e.room ≡ true → limitOf e.bytes Kind.Propose ≡ 0 → stepOn w e ≡ handled w e.bytes Kind.Propose → (u : Bool) → eqb checkOf 0 ≡ u
-          → Passed w e ⊎ P (stepOn w e).answer
+      check : roomy (length w.table) e.room ≡ true → limit_of e.bytes Kind.Propose ≡ 0 → step_on w e ≡ handled w e.bytes Kind.Propose → (u : Bool) → eqb check_of 0 ≡ u
+          → Passed w e ⊎ P (step_on w e).answer
       check x y g true z = inl (record { kind = k; room = x; limits = y; checks = eqb-true _ 0 z })
       check x y g false z =
-          inr (rw (g, refused-answer (eqb-false _ 0 z)) (check-in P c (committee w) (block_of e.bytes) e.bytes (qcFound (committee w) e.bytes)))
+          inr (rw (g, refused-answer (eqb-false _ 0 z)) (check-in P c (committee w) (block_of e.bytes) e.bytes (qc_found (committee w) e.bytes)))
 
-      cases : Gives w e Kind.Propose (stepOn w e) → Passed w e ⊎ P (stepOn w e).answer
+      cases : Gives w e Kind.Propose (step_on w e) → Passed w e ⊎ P (step_on w e).answer
       cases (formless g) = inr (at _ g c.bad)
       cases (again g) = inr (at _ g twice)
       cases (roomless g) = inr (at _ g room)
       cases (limited g) = inr (at _ g (limit-in P c e.bytes Kind.Propose))
-      cases (gives x y g) = check x y g (eqb checkOf 0) refl
+      cases (gives x y g) = check x y g (eqb check_of 0) refl
 
   -- A PROPOSE that is answered 2 or 3 passed its checks.
   pub waits-passed : Waits w e → Passed w e
   waits-passed k =
       ⊎_elim
       (λ p. p)
-      (λ r. never (stepOn w e).answer r k.waits)
+      (λ r. never (step_on w e).answer r k.waits)
       (passed-unless Apart apart (inr (omega arith)) (inr (omega arith)) k.kind)
 
 -- ---- 30 and 31
 
 -- a number that no walk and no lookup of an ancestor gives
 abbrev Elsewhere : ℕ → Type 0
-Elsewhere n = member n (ancestorAbsent ∷ roundNotBelow ∷ []) ≡ false
+Elsewhere n = member n (ancestor_absent ∷ round_not_below ∷ []) ≡ false
 
 elsewhere : Checks Elsewhere
 unfolding member
@@ -215,20 +215,20 @@ votes-elsewhere : (n : ℕ) → Votes n → Elsewhere n
 unfolding member
 votes-elsewhere n v = votes-in Elsewhere refl refl refl refl n v
 
-payload-elsewhere : (payload : ℕ) → Elsewhere (payloadNumber payload)
-unfolding payloadNumber member
-payload-elsewhere payload = in-cond Elsewhere (eqb payload 1) 0 _ refl (in-cond Elsewhere (eqb payload 0) waitPayload invalidPayload refl refl)
+payload-elsewhere : (payload : ℕ) → Elsewhere (payload_number payload)
+unfolding payload_number member
+payload-elsewhere payload = in-cond Elsewhere (eqb payload 1) 0 _ refl (in-cond Elsewhere (eqb payload 0) wait_payload invalid_payload refl refl)
 
 module _ (m : List ℕ) (own : ℕ) (s : State) where
-  tallied-elsewhere : (round p stake high : ℕ) → Elsewhere (timeoutTallied m own (quorumOf m) s round p stake high).answer
+  tallied-elsewhere : (round p stake high : ℕ) → Elsewhere (timeout_tallied m own (quorum_of m) s round p stake high).answer
   unfolding member
-  tallied-elsewhere round p stake high = tallied-in Elsewhere refl refl refl m own (quorumOf m) s round p stake high
+  tallied-elsewhere round p stake high = tallied-in Elsewhere refl refl refl m own (quorum_of m) s round p stake high
 
-  own-timeout-elsewhere : Elsewhere (ownTimeout m own s).answer
-  unfolding ownTimeout
+  own-timeout-elsewhere : Elsewhere (own_timeout m own s).answer
+  unfolding own_timeout
   own-timeout-elsewhere =
-      checked-in Elsewhere elsewhere (authorNumber (authorCheck m own 1)) s _ (author-in Elsewhere elsewhere (authorCheck m own 1))
-      (tallied-elsewhere s.core.round.0 own (stakeOf m own) s.core.high_qc.round.0)
+      checked-in Elsewhere elsewhere (author_number (author_check m own 1)) s _ (author-in Elsewhere elsewhere (author_check m own 1))
+      (tallied-elsewhere s.core.round.0 own (stake_of m own) s.core.high_qc.round.0)
 
 -- an event that brings no block has another number
 module _ (w : World) (r : List ℕ) where
@@ -239,47 +239,47 @@ module _ (w : World) (r : List ℕ) where
   own = w.seat.own.0
 
   vote-elsewhere : Elsewhere (handled w r Kind.Vote).answer
-  unfolding handledVote voteCheck member
+  unfolding handled_vote vote_check member
   vote-elsewhere =
-      let v = voteOf r in
+      let v = vote_of r in
       let s = w.state in
-      checked-in Elsewhere elsewhere (cond (ltb v.round.0 s.core.round.0) stale (authorNumber (authorCheck m v.author.0 v.verdict))) s _
-      (in-cond Elsewhere (ltb v.round.0 s.core.round.0) stale _ refl (author-in Elsewhere elsewhere (authorCheck m v.author.0 v.verdict)))
-      (votes-elsewhere (voteTallied m own (quorumOf m) s v.hash v.round.0 v.author.0 (stakeOf m v.author.0)).answer
-      (tallied-votes m own (quorumOf m) s v.hash v.round.0 v.author.0 (stakeOf m v.author.0)))
+      checked-in Elsewhere elsewhere (cond (ltb v.round.0 s.core.round.0) stale (author_number (author_check m v.author.0 v.verdict))) s _
+      (in-cond Elsewhere (ltb v.round.0 s.core.round.0) stale _ refl (author-in Elsewhere elsewhere (author_check m v.author.0 v.verdict)))
+      (votes-elsewhere (vote_tallied m own (quorum_of m) s v.hash v.round.0 v.author.0 (stake_of m v.author.0)).answer
+      (tallied-votes m own (quorum_of m) s v.hash v.round.0 v.author.0 (stake_of m v.author.0)))
 
   timeout-elsewhere : Elsewhere (handled w r Kind.Timeout).answer
-  unfolding handledTimeout timeoutWith timeoutTaken timeoutCheck member
+  unfolding handled_timeout timeout_with timeout_taken timeout_check member
   timeout-elsewhere =
-      let t = timeoutOf r in
+      let t = timeout_of r in
       let s = w.state in
-      let c = embeddedCheck m (quorumOf m) (qcPart r timeoutQC) in
-      let a = authorNumber (authorCheck m t.author.0 t.verdict) in
-      checked-in Elsewhere elsewhere (first (cond (ltb t.round.0 s.core.round.0) stale a) (number_of c qcRequiresQuorum)) s (timeoutTaken m own s t (signersOf c))
-      (first-in Elsewhere elsewhere (cond (ltb t.round.0 s.core.round.0) stale a) (number_of c qcRequiresQuorum)
-      (in-cond Elsewhere (ltb t.round.0 s.core.round.0) stale a refl (author-in Elsewhere elsewhere (authorCheck m t.author.0 t.verdict)))
-      (number_in Elsewhere elsewhere c qcRequiresQuorum refl))
-      (tallied-elsewhere m own _ t.round.0 t.author.0 (stakeOf m t.author.0) t.qc_round.0)
+      let c = embedded_check m (quorum_of m) (qc_part r timeout_qc) in
+      let a = author_number (author_check m t.author.0 t.verdict) in
+      checked-in Elsewhere elsewhere (first (cond (ltb t.round.0 s.core.round.0) stale a) (number_of c qc_requires_quorum)) s (timeout_taken m own s t (signers_of c))
+      (first-in Elsewhere elsewhere (cond (ltb t.round.0 s.core.round.0) stale a) (number_of c qc_requires_quorum)
+      (in-cond Elsewhere (ltb t.round.0 s.core.round.0) stale a refl (author-in Elsewhere elsewhere (author_check m t.author.0 t.verdict)))
+      (number_in Elsewhere elsewhere c qc_requires_quorum refl))
+      (tallied-elsewhere m own _ t.round.0 t.author.0 (stake_of m t.author.0) t.qc_round.0)
 
   tc-elsewhere : Elsewhere (handled w r Kind.Tc).answer
-  unfolding handledTC tcWith member
+  unfolding handled_tc tc_with member
   tc-elsewhere =
       let s = w.state in
-      let round = tcRound r tcBody in
-      let c = tcCheck m (quorumOf m) (tcPart r tcBody) in
-      checked-in Elsewhere elsewhere (first (number_of c tcRequiresQuorum) (staleIf round s.core.round.0)) s (done 0 (tcTaken m own s round (signersOf c) (tcPart r tcBody)))
-      (first-in Elsewhere elsewhere (number_of c tcRequiresQuorum) (staleIf round s.core.round.0) (number_in Elsewhere elsewhere c tcRequiresQuorum refl) (in-cond Elsewhere (ltb round s.core.round.0) stale 0 refl refl))
+      let round = tc_round r tc_body in
+      let c = tc_check m (quorum_of m) (tc_part r tc_body) in
+      checked-in Elsewhere elsewhere (first (number_of c tc_requires_quorum) (stale_if round s.core.round.0)) s (done 0 (tc_taken m own s round (signers_of c) (tc_part r tc_body)))
+      (first-in Elsewhere elsewhere (number_of c tc_requires_quorum) (stale_if round s.core.round.0) (number_in Elsewhere elsewhere c tc_requires_quorum refl) (in-cond Elsewhere (ltb round s.core.round.0) stale 0 refl refl))
       refl
 
   tick-elsewhere : Elsewhere (handled w r Kind.Tick).answer
-  unfolding handledTick member
-  tick-elsewhere = cases (ltb roundMax w.state.core.round.0)
+  unfolding handled_tick member
+  tick-elsewhere = cases (ltb round_max w.state.core.round.0)
     where
-      cases : (u : Bool) → Elsewhere (cond u (refused roundTooHigh w.state) (after (ticked w.state) (ownTimeout m own))).answer
+      cases : (u : Bool) → Elsewhere (cond u (refused round_too_high w.state) (after (ticked w.state) (own_timeout m own))).answer
       cases true = refl
       cases false = own-timeout-elsewhere m own (ticked w.state).state
 
-module _ (w : World) (e : Event) (t : Stake) (s : Started w t) (n : ℕ) (is : (n ≡ ancestorAbsent) ⊎ (n ≡ roundNotBelow)) where
+module _ (w : World) (e : Event) (t : Stake) (s : Started w t) (n : ℕ) (is : (n ≡ ancestor_absent) ⊎ (n ≡ round_not_below)) where
   abbrev b : Block
   b = block_of e.bytes
 
@@ -287,51 +287,51 @@ module _ (w : World) (e : Event) (t : Stake) (s : Started w t) (n : ℕ) (is : (
   unfolding member
   stops k f h =
       ⊎_elim
-      (λ (i : n ≡ ancestorAbsent). let x : Elsewhere ancestorAbsent = subst Elsewhere (f ∙ i) h in true≢false x)
-      (λ (i : n ≡ roundNotBelow). let x : Elsewhere roundNotBelow = subst Elsewhere (f ∙ i) h in true≢false x)
+      (λ (i : n ≡ ancestor_absent). let x : Elsewhere ancestor_absent = subst Elsewhere (f ∙ i) h in true≢false x)
+      (λ (i : n ≡ round_not_below). let x : Elsewhere round_not_below = subst Elsewhere (f ∙ i) h in true≢false x)
       is
 
   -- a block that was treated: the number is the table's
   treated : (u : State) → u.core.last_committed_round ≡ w.state.core.last_committed_round → (processed (committee w) w.seat.own.0 w.table b u).answer ≡ n
-      → Stopped w.table (slotFor b) (committedOf w) n
-  unfolding settledFor
+      → Stopped w.table (slot_for b) (committed_of w) n
+  unfolding settled_for
   treated u same a =
       let k = by-table (committee w) w.seat.own.0 w.table b u n (λ v. stops n refl (votes-elsewhere n v)) a in
       let ne : n ≡ 0 → ⊥ = λ z. ⊎_elim (λ i. omega arith) (λ i. omega arith) is in
-      let nw : n ≡ waitParent → ⊥ = λ z. ⊎_elim (λ i. omega arith) (λ i. omega arith) is in
-      let nf : n ≡ tableFull → ⊥ = λ z. ⊎_elim (λ i. omega arith) (λ i. omega arith) is in
-      rw (ap (λ (x : Round). x.0) same) at (settled-stopped w.table (workFor b u.core.last_committed_round 0) n ne nw nf refl k.0)
+      let nw : n ≡ wait_parent → ⊥ = λ z. ⊎_elim (λ i. omega arith) (λ i. omega arith) is in
+      let nf : n ≡ table_full → ⊥ = λ z. ⊎_elim (λ i. omega arith) (λ i. omega arith) is in
+      rw (ap (λ (x : Round). x.0) same) at (settled-stopped w.table (work_for b u.core.last_committed_round 0) n ne nw nf refl k.0)
 
   pub record StoppedIn : Type 0 where
     pub brought : Passed w e ⊎ Looped w e
-    pub by : Stopped w.table (slotFor b) (committedOf w) n
+    pub by : Stopped w.table (slot_for b) (committed_of w) n
 
-  by-propose : Passed w e → (stepOn w e).answer ≡ n → StoppedIn
-  unfolding stepped goingOn byPayload
+  by-propose : Passed w e → (step_on w e).answer ≡ n → StoppedIn
+  unfolding stepped going_on by_payload
   by-propose p a =
-      let x = taken w.state b (signersOf (qcFound (committee w) e.bytes)) in
+      let x = taken w.state b (signers_of (qc_found (committee w) e.bytes)) in
       let ready = started-ready w.seat w.stakes w.state.votes w.state.timeouts t s in
-      let g : stepOn w e ≡ handled w e.bytes Kind.Propose = rw (p.kind, s, p.room, p.limits) refl in
-      let k = certificates-keep 0 w.state ready.sound.long ready.sound.wide b (signersOf (qcFound (committee w) e.bytes)) in
+      let g : step_on w e ≡ handled w e.bytes Kind.Propose = rw (p.kind, s, p.room, p.limits) refl in
+      let k = certificates-keep 0 w.state ready.sound.long ready.sound.wide b (signers_of (qc_found (committee w) e.bytes)) in
       let h : (handled w e.bytes Kind.Propose).answer ≡ n = sym (ap (λ (r : Result). r.answer) g) ∙ a in
       record {
         brought = inl p;
-        by = cases x k.committed (eqb (payloadOf e.bytes) 1) (rw (proposal-takes (committee w) w.state b e.bytes (payloadOf e.bytes) p.checks) at h);
+        by = cases x k.committed (eqb (payload_of e.bytes) 1) (rw (proposal-takes (committee w) w.state b e.bytes (payload_of e.bytes) p.checks) at h);
       }
     where
       cases : (x : Step) → x.state.core.last_committed_round ≡ w.state.core.last_committed_round → (u : Bool)
-          → (cond u (after x (processed (committee w) w.seat.own.0 w.table b)) (byPayload (payloadOf e.bytes) x).out).answer ≡ n
-          → Stopped w.table (slotFor b) (committedOf w) n
+          → (cond u (after x (processed (committee w) w.seat.own.0 w.table b)) (by_payload (payload_of e.bytes) x).out).answer ≡ n
+          → Stopped w.table (slot_for b) (committed_of w) n
       cases x same true h = treated x.state same h
-      cases x same false h = absurd (stops (payloadNumber (payloadOf e.bytes)) h (payload-elsewhere (payloadOf e.bytes)))
+      cases x same false h = absurd (stops (payload_number (payload_of e.bytes)) h (payload-elsewhere (payload_of e.bytes)))
 
-  by-handled : (k : Kind) → form_of e.bytes ≡ k → roomy (length w.table) e.room ≡ true → limitOf e.bytes k ≡ 0 → (handled w e.bytes k).answer ≡ n
-      → (stepOn w e).answer ≡ n → StoppedIn
+  by-handled : (k : Kind) → form_of e.bytes ≡ k → roomy (length w.table) e.room ≡ true → limit_of e.bytes k ≡ 0 → (handled w e.bytes k).answer ≡ n
+      → (step_on w e).answer ≡ n → StoppedIn
   unfolding member
   by-handled Kind.Bad f x y h a = absurd (stops _ h refl)
   by-handled Kind.Start f x y h a = absurd (stops _ h refl)
   by-handled Kind.Propose f x y h a =
-      ⊎_elim (λ p. by-propose p a) (λ r. absurd (stops (stepOn w e).answer a r)) (passed-unless w e t s Elsewhere elsewhere refl refl f)
+      ⊎_elim (λ p. by-propose p a) (λ r. absurd (stops (step_on w e).answer a r)) (passed-unless w e t s Elsewhere elsewhere refl refl f)
   by-handled Kind.Vote f x y h a = absurd (stops _ h (vote-elsewhere w e.bytes))
   by-handled Kind.Timeout f x y h a = absurd (stops _ h (timeout-elsewhere w e.bytes))
   by-handled Kind.Tc f x y h a = absurd (stops _ h (tc-elsewhere w e.bytes))
@@ -339,16 +339,16 @@ module _ (w : World) (e : Event) (t : Stake) (s : Started w t) (n : ℕ) (is : (
   by-handled Kind.Tick f x y h a = absurd (stops _ h (tick-elsewhere w e.bytes))
 
   -- An event that is answered 30 or 31 brought a block, and this is what it met at the table.
-  pub stopped : (stepOn w e).answer ≡ n → StoppedIn
+  pub stopped : (step_on w e).answer ≡ n → StoppedIn
   unfolding member
   stopped a = cases (step_is w e t s)
     where
-      at : (x : Result) → stepOn w e ≡ x → x.answer ≡ n
+      at : (x : Result) → step_on w e ≡ x → x.answer ≡ n
       at x g = sym (ap (λ (r : Result). r.answer) g) ∙ a
 
-      cases : Gives w e (form_of e.bytes) (stepOn w e) → StoppedIn
-      cases (formless g) = absurd (stops badRecord (at _ g) refl)
-      cases (again g) = absurd (stops startedAgain (at _ g) refl)
-      cases (roomless g) = absurd (stops noRoom (at _ g) refl)
+      cases : Gives w e (form_of e.bytes) (step_on w e) → StoppedIn
+      cases (formless g) = absurd (stops bad_record (at _ g) refl)
+      cases (again g) = absurd (stops started_again (at _ g) refl)
+      cases (roomless g) = absurd (stops no_room (at _ g) refl)
       cases (limited g) = absurd (stops _ (at _ g) (limit-in Elsewhere elsewhere e.bytes (form_of e.bytes)))
       cases (gives x y g) = by-handled (form_of e.bytes) refl x y (at _ g) a

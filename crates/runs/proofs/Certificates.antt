@@ -21,21 +21,21 @@ use lib.Seq.{take-length}
 use Rattle.certificates.specs.declared.numbers.Signers.{Signers}
 use Rattle.certificates.specs.declared.messages.QC.{QC}
 use Rattle.certificates.specs.declared.messages.Checked.TheVariants.{Accepted}
-use Rattle.certificates.specs.Config.{membersMax, quorumOf}
-use Rattle.certificates.specs.Num.{le, num_at, hashAt, numsAt}
-use Rattle.certificates.specs.Signers.{bit_of, isIn, words, noSigners, withSigner, signersFrom, signersOf, member}
-use Rattle.certificates.specs.Messages.{Form, qcForm, tcForm, isGenesis, verdictIn, count_of, placesIn, checkPart, qcCheck, equalsGenesis}
+use Rattle.certificates.specs.Config.{members_max, quorum_of}
+use Rattle.certificates.specs.Num.{le, num_at, hash_at, nums_at}
+use Rattle.certificates.specs.Signers.{bit_of, is_in, words, no_signers, with_signer, signers_from, signers_of, member}
+use Rattle.certificates.specs.Messages.{Form, qc_form, tc_form, is_genesis, verdict_in, count_of, places_in, check_part, qc_check, equals_genesis}
 use Rattle.certificates.proofs.Places.{member-take}
 use Rattle.certificates.proofs.Accepted.{Distinct, named-accepted, qc-part, tc-part, embedded-part, certified, walked-distinct}
 use Rattle.certificates.proofs.Sets.{in-low}
 use Rattle.certificates.proofs.Theorems.{genesis-accepted}
-use Rattle.outputs.specs.Fields.{number, hash, digits, hashBytes, bytes_of}
-use Rattle.outputs.specs.Records.{placesFrom, places_of, entries}
+use Rattle.outputs.specs.Fields.{number, hash, digits, hash_bytes, bytes_of}
+use Rattle.outputs.specs.Records.{places_from, places_of, entries}
 use Rattle.outputs.proofs.Writes.{length_digits}
 use Rattle.outputs.proofs.ReadBack.{num-back}
 use Rattle.outputs.proofs.Places.{places-most, length-places}
-use Rattle.replica.specs.Step.{newCore}
-use Rattle.runs.specs.Signed.{qcBytes, tcBytes, GoodQC, GoodTC}
+use Rattle.replica.specs.Step.{new_core}
+use Rattle.runs.specs.Signed.{qc_bytes, tc_bytes, GoodQC, GoodTC}
 use Rattle.runs.proofs.Tallied.{Quorate}
 
 -- ---- the places of a word
@@ -73,12 +73,12 @@ two zero h = inl refl
 two (suc zero) h = inr refl
 two (suc (suc d)) h = absurd (omega arith)
 
-places-rise : (k p w : ℕ) → Rises p (placesFrom k p w)
-unfolding placesFrom Rises
+places-rise : (k p w : ℕ) → Rises p (places_from k p w)
+unfolding places_from Rises
 places-rise zero p w = tt
 places-rise (suc k) p w =
     ⊎_elim
-    (λ e. rw e (rises-less p (suc p) (placesFrom k (suc p) (w / 2)) (omega arith) (places-rise k (suc p) (w / 2))))
+    (λ e. rw e (rises-less p (suc p) (places_from k (suc p) (w / 2)) (omega arith) (places-rise k (suc p) (w / 2))))
     (λ e. rw e (omega arith, places-rise k (suc p) (w / 2)))
     (two (w % 2) (omega arith))
 
@@ -89,22 +89,22 @@ other_place true p q rest n = rw (ne_eqb q p n)
 other_place false p q rest n = refl
 
 -- who is among them, j places on
-places-bits : (k p w j : ℕ) → j < k → bit_of w j ≡ cond (member (p + j) (placesFrom k p w)) 1 0
-unfolding placesFrom bit_of member
+places-bits : (k p w j : ℕ) → j < k → bit_of w j ≡ cond (member (p + j) (places_from k p w)) 1 0
+unfolding places_from bit_of member
 places-bits zero p w j h = absurd (omega arith)
 places-bits (suc k) p w zero h =
     ⊎_elim
-    (λ e. rw (e, rises-not (suc p) (p + 0) (placesFrom k (suc p) (w / 2)) (omega arith) (places-rise k (suc p) (w / 2))))
+    (λ e. rw (e, rises-not (suc p) (p + 0) (places_from k (suc p) (w / 2)) (omega arith) (places-rise k (suc p) (w / 2))))
     (λ e. rw (e, eq-eqb (p + 0) p (omega arith)))
     (two (w % 2) (omega arith))
 places-bits (suc k) p w (suc j) h =
     let same : p + suc j ≡ suc p + j = omega arith in
-    let rest = placesFrom k (suc p) (w / 2) in
+    let rest = places_from k (suc p) (w / 2) in
     places-bits k (suc p) (w / 2) j (omega arith)
     ∙ ap (λ (b : Bool). cond b 1 0) (ap (λ (q : ℕ). member q rest) (sym same) ∙ sym (other_place (eqb (w % 2) 1) p (p + suc j) rest (λ z. omega arith)))
 
-places-under : (k p w q : ℕ) → p + k ≤ q → member q (placesFrom k p w) ≡ false
-unfolding placesFrom member
+places-under : (k p w q : ℕ) → p + k ≤ q → member q (places_from k p w) ≡ false
+unfolding places_from member
 places-under zero p w q h = refl
 places-under (suc k) p w q h =
     ⊎_elim
@@ -113,13 +113,13 @@ places-under (suc k) p w q h =
     (two (w % 2) (omega arith))
 
 -- a set names whom the places of its word name
-pub word-bits : (s : Signers) (q : ℕ) → isIn (words s) q ≡ cond (member q (places_of s.0)) 1 0
-unfolding isIn places_of
-word-bits s q = cases (ltb q membersMax) refl
+pub word-bits : (s : Signers) (q : ℕ) → is_in (words s) q ≡ cond (member q (places_of s.0)) 1 0
+unfolding is_in places_of
+word-bits s q = cases (ltb q members_max) refl
   where
-    cases : (b : Bool) → ltb q membersMax ≡ b → cond b (bit_of s.0 q) 0 ≡ cond (member q (placesFrom membersMax 0 s.0)) 1 0
-    cases true e = rw zero-add at (places-bits membersMax 0 s.0 q (ltb-true q membersMax e))
-    cases false e = rw (places-under membersMax 0 s.0 q (omega (arith, ltb-false q membersMax e)))
+    cases : (b : Bool) → ltb q members_max ≡ b → cond b (bit_of s.0 q) 0 ≡ cond (member q (places_from members_max 0 s.0)) 1 0
+    cases true e = rw zero-add at (places-bits members_max 0 s.0 q (ltb-true q members_max e))
+    cases false e = rw (places-under members_max 0 s.0 q (omega (arith, ltb-false q members_max e)))
 
 set-one : (b : Bool) → b ≡ true → ◌≡◌ {A = ℕ} (cond b 1 0) 1
 set-one b e = rw e
@@ -129,7 +129,7 @@ quorate-distinct : (m : List ℕ) (s : Signers) → Quorate m s → Distinct m (
 unfolding places_of
 quorate-distinct m s k =
     record {
-      distinct = λ i j l h e. omega (arith, rises-distinct 0 (places_of s.0) i j (places-rise membersMax 0 s.0) l h);
+      distinct = λ i j l h e. omega (arith, rises-distinct 0 (places_of s.0) i j (places-rise members_max 0 s.0) l h);
       known = λ j h.
           let p = get_or (places_of s.0) j 0 in
           let n = length (places_of s.0) in
@@ -144,8 +144,8 @@ Small : List ℕ → Type 0
 Small ps = (i : ℕ) → i < length ps → get_or ps i 0 < 256 ^ 2
 
 module _ (highs : List ℕ) where
-  tc-places-at : (ps xs : List ℕ) {at : ℕ} → length xs ≡ at → Small ps → numsAt 2 10 (length ps) (xs ++ bytes_of (entries ps highs)) at ≡ ps
-  unfolding numsAt entries bytes_of Small
+  tc-places-at : (ps xs : List ℕ) {at : ℕ} → length xs ≡ at → Small ps → nums_at 2 10 (length ps) (xs ++ bytes_of (entries ps highs)) at ≡ ps
+  unfolding nums_at entries bytes_of Small
   tc-places-at [] xs e h = refl
   tc-places-at (p ∷ ps) xs {at} e h =
       let rest = bytes_of (entries ps highs) in
@@ -154,8 +154,8 @@ module _ (highs : List ℕ) where
       let next = tc-places-at ps (xs ++ (digits 2 p ++ digits 8 (get_or highs p 0))) {at = at + 10} (rw (length-append, length-append, length_digits 2 p, length_digits 8 (get_or highs p 0)) (omega arith)) (λ i l. h (suc i) (omega arith)) in
       rw here (ap (λ (r : List ℕ). p ∷ r) (rw whole next))
 
-qc-places-at : (ps xs : List ℕ) {at : ℕ} → length xs ≡ at → Small ps → numsAt 2 2 (length ps) (xs ++ bytes_of (map (number 2) ps)) at ≡ ps
-unfolding numsAt bytes_of Small
+qc-places-at : (ps xs : List ℕ) {at : ℕ} → length xs ≡ at → Small ps → nums_at 2 2 (length ps) (xs ++ bytes_of (map (number 2) ps)) at ≡ ps
+unfolding nums_at bytes_of Small
 qc-places-at [] xs e h = refl
 qc-places-at (p ∷ ps) xs {at} e h =
     let rest = bytes_of (map (number 2) ps) in
@@ -176,14 +176,14 @@ twos-length (p ∷ ps) = rw (length-append, length_digits 2 p) (omega (arith, tw
 -- the places of a word fit two bytes
 places-small : (w : ℕ) → Small (places_of w)
 unfolding places_of Small
-places-small w i h = omega (arith, below (ltb membersMax (get_or (placesFrom membersMax 0 w) i 0)) refl)
+places-small w i h = omega (arith, below (ltb members_max (get_or (places_from members_max 0 w) i 0)) refl)
   where
-    below : (b : Bool) → ltb membersMax (get_or (placesFrom membersMax 0 w) i 0) ≡ b → get_or (placesFrom membersMax 0 w) i 0 ≤ membersMax
+    below : (b : Bool) → ltb members_max (get_or (places_from members_max 0 w) i 0) ≡ b → get_or (places_from members_max 0 w) i 0 ≤ members_max
     below false e = ltb-false _ _ e
     below true e =
-        let p = get_or (placesFrom membersMax 0 w) i 0 in
-        let there : member p (placesFrom membersMax 0 w) ≡ true = rw take-length at (member-take p (placesFrom membersMax 0 w) (length (placesFrom membersMax 0 w)) i h h refl) in
-        let none : member p (placesFrom membersMax 0 w) ≡ false = places-under membersMax 0 w p (omega (arith, ltb-true membersMax p e)) in
+        let p = get_or (places_from members_max 0 w) i 0 in
+        let there : member p (places_from members_max 0 w) ≡ true = rw take-length at (member-take p (places_from members_max 0 w) (length (places_from members_max 0 w)) i h h refl) in
+        let none : member p (places_from members_max 0 w) ≡ false = places-under members_max 0 w p (omega (arith, ltb-true members_max p e)) in
         let z : ◌≡◌ {A = Bool} true false = sym there ∙ none in
         let y : ◌≡◌ {A = ℕ} 0 1 = cc in
         absurd (omega arith)
@@ -198,22 +198,22 @@ word_same (suc k) a b h l e =
     let low : a % 2 ≡ b % 2 = e 0 (omega arith) in
     omega arith
 
-pub signers-word : (s : Signers) (ps : List ℕ) → s.0 < 2 ^ membersMax → ((j : ℕ) → j < length ps → get_or ps j 0 < membersMax) → (signersFrom s ps).0 < 2 ^ membersMax
-unfolding signersFrom
+pub signers-word : (s : Signers) (ps : List ℕ) → s.0 < 2 ^ members_max → ((j : ℕ) → j < length ps → get_or ps j 0 < members_max) → (signers_from s ps).0 < 2 ^ members_max
+unfolding signers_from
 signers-word s [] h a = h
 signers-word s (p ∷ ps) h a =
-    signers-word (withSigner s p) ps (or_lt membersMax s.0 (2 ^ p) h (pow-lt (a 0 (omega arith)))) (λ j l. a (suc j) (omega arith))
+    signers-word (with_signer s p) ps (or_lt members_max s.0 (2 ^ p) h (pow-lt (a 0 (omega arith)))) (λ j l. a (suc j) (omega arith))
 
-same-signers : (f : Form) (m part : List ℕ) (s : Signers) → Quorate m s → placesIn f part ≡ places_of s.0
-    → checkPart f m (quorumOf m) part ≡ Accepted (signersOf (placesIn f part)) → checkPart f m (quorumOf m) part ≡ Accepted s
-unfolding signersOf
+same-signers : (f : Form) (m part : List ℕ) (s : Signers) → Quorate m s → places_in f part ≡ places_of s.0
+    → check_part f m (quorum_of m) part ≡ Accepted (signers_of (places_in f part)) → check_part f m (quorum_of m) part ≡ Accepted s
+unfolding signers_of
 same-signers f m part s k e h =
-    let t = signersOf (placesIn f part) in
-    let c = certified f m (quorumOf m) part t h in
-    let word : t.0 < 2 ^ membersMax = signers-word noSigners (placesIn f part) (lit< tt) (λ j l. ((walked-distinct m (placesIn f part) c.walked).known j l).small) in
-    let bits : (p : ℕ) → p < membersMax → bit_of t.0 p ≡ bit_of s.0 p = λ p l.
+    let t = signers_of (places_in f part) in
+    let c = certified f m (quorum_of m) part t h in
+    let word : t.0 < 2 ^ members_max = signers-word no_signers (places_in f part) (lit< tt) (λ j l. ((walked-distinct m (places_in f part) c.walked).known j l).small) in
+    let bits : (p : ℕ) → p < members_max → bit_of t.0 p ≡ bit_of s.0 p = λ p l.
     sym (in-low t.0 [] p l) ∙ c.clean.bits p ∙ ap (λ (ps : List ℕ). cond (member p ps) 1 0) e ∙ sym (word-bits s p) ∙ in-low s.0 [] p l in
-    h ∙ ap Accepted (ap (λ (x : ℕ). record { 0 = x }) (word_same membersMax t.0 s.0 word k.word bits))
+    h ∙ ap Accepted (ap (λ (x : ℕ). record { 0 = x }) (word_same members_max t.0 s.0 word k.word bits))
 
 -- ---- a certificate of a quorum is accepted, whatever stands before its result
 
@@ -222,17 +222,17 @@ count s = length (places_of s.0)
 
 count_ones : (m : List ℕ) (s : Signers) → Quorate m s → ones s.0 ≡ count s
 unfolding places_of
-count_ones m s k = sym (length-places membersMax 0 s.0 k.word)
+count_ones m s k = sym (length-places members_max 0 s.0 k.word)
 
 module _ (f : Form) (m : List ℕ) (s : Signers) (k : Quorate m s) (front list : List ℕ) where
   module _ {part : List ℕ} (is : part ≡ front ++ (digits 1 1 ++ (digits 2 (count s) ++ list))) (at_front : length front ≡ f.at) (size : length list ≡ f.stride * count s)
-      (listed : numsAt 2 f.stride (count s) ((front ++ (digits 1 1 ++ digits 2 (count s))) ++ list) (f.at + 3) ≡ places_of s.0) where
-    few : count s ≤ membersMax
+      (listed : nums_at 2 f.stride (count s) ((front ++ (digits 1 1 ++ digits 2 (count s))) ++ list) (f.at + 3) ≡ places_of s.0) where
+    few : count s ≤ members_max
     unfolding places_of
-    few = places-most membersMax 0 s.0
+    few = places-most members_max 0 s.0
 
-    verdict-yes : verdictIn f part ≡ 1
-    unfolding verdictIn
+    verdict-yes : verdict_in f part ≡ 1
+    unfolding verdict_in
     verdict-yes = rw (is, ← at_front) (num-back 1 1 front (digits 2 (count s) ++ list) (lit< tt))
 
     count-is : count_of f part ≡ count s
@@ -242,8 +242,8 @@ module _ (f : Form) (m : List ℕ) (s : Signers) (k : Quorate m s) (front list :
         let e : part ≡ (front ++ digits 1 1) ++ (digits 2 (count s) ++ list) = is ∙ sym (append_assoc front (digits 1 1) (digits 2 (count s) ++ list)) in
         rw (e, ← l) (num-back 2 (count s) (front ++ digits 1 1) list (omega (arith, few)))
 
-    places-are : placesIn f part ≡ places_of s.0
-    unfolding placesIn
+    places-are : places_in f part ≡ places_of s.0
+    unfolding places_in
     places-are =
         let e : part ≡ (front ++ (digits 1 1 ++ digits 2 (count s))) ++ list = is ∙ simp append_assoc in
         rw (count-is, e) listed
@@ -251,55 +251,55 @@ module _ (f : Form) (m : List ℕ) (s : Signers) (k : Quorate m s) (front list :
     whole : f.at + 3 + f.stride * count_of f part ≤ length part
     whole = rw count-is (rw (is, length-append, length-append, length-append, length_digits 1 1, length_digits 2 (count s)) (omega (arith, at_front, size)))
 
-    accepted-bytes : checkPart f m (quorumOf m) part ≡ Accepted s
+    accepted-bytes : check_part f m (quorum_of m) part ≡ Accepted s
     accepted-bytes =
         same-signers f m part s k places-are
-        (named-accepted f m (quorumOf m) part s whole (rw places-are (quorate-distinct m s k)) (λ q. rw places-are (word-bits s q)) k.quorum verdict-yes)
+        (named-accepted f m (quorum_of m) part s whole (rw places-are (quorate-distinct m s k)) (λ q. rw places-are (word-bits s q)) k.quorum verdict-yes)
 
 three-more : (front : List ℕ) (n : ℕ) {at : ℕ} → length front ≡ at → length (front ++ (digits 1 1 ++ digits 2 n)) ≡ at + 3
 three-more front n e = rw (length-append, length-append, length_digits 1 1, length_digits 2 n, e)
 
-hash-length : (q : QC) → length (hashBytes q.hash ++ digits 8 q.round.0) ≡ 40
-unfolding hashBytes digits
+hash-length : (q : QC) → length (hash_bytes q.hash ++ digits 8 q.round.0) ≡ 40
+unfolding hash_bytes digits
 hash-length q = refl
 
 module _ (m : List ℕ) where
-  qc-part-accepted : (q : QC) → Quorate m q.signers → checkPart qcForm m (quorumOf m) (qcBytes q) ≡ Accepted q.signers
-  unfolding qcBytes bytes_of
+  qc-part-accepted : (q : QC) → Quorate m q.signers → check_part qc_form m (quorum_of m) (qc_bytes q) ≡ Accepted q.signers
+  unfolding qc_bytes bytes_of
   qc-part-accepted q k =
       let s = q.signers in
       let ps = places_of s.0 in
-      let front = hashBytes q.hash ++ digits 8 q.round.0 in
+      let front = hash_bytes q.hash ++ digits 8 q.round.0 in
       let past = digits 1 1 ++ (digits 2 (count s) ++ bytes_of (map (number 2) ps)) in
       rw (count_ones m s k)
-      (accepted-bytes qcForm m s k front (bytes_of (map (number 2) ps)) (sym (append_assoc (hashBytes q.hash) (digits 8 q.round.0) past)) (hash-length q) (twos-length ps)
+      (accepted-bytes qc_form m s k front (bytes_of (map (number 2) ps)) (sym (append_assoc (hash_bytes q.hash) (digits 8 q.round.0) past)) (hash-length q) (twos-length ps)
       (qc-places-at ps (front ++ (digits 1 1 ++ digits 2 (count s))) (three-more front (count s) (hash-length q)) (places-small s.0)))
 
   -- a QC that a quorum of members with stake backs is accepted, with its signers
-  pub quorate-qc : (q : QC) → Quorate m q.signers → qcCheck m (quorumOf m) (qcBytes q) ≡ Accepted q.signers
+  pub quorate-qc : (q : QC) → Quorate m q.signers → qc_check m (quorum_of m) (qc_bytes q) ≡ Accepted q.signers
   quorate-qc q k = rw qc-part (qc-part-accepted q k)
 
   -- and a TC
   pub quorate-tc : (round : ℕ) (s : Signers) (highs : List ℕ) → Quorate m s → GoodTC m round s.0 highs
-  unfolding tcBytes bytes_of
+  unfolding tc_bytes bytes_of
   quorate-tc round s highs k =
       let ps = places_of s.0 in
       rw (tc-part, count_ones m s k)
-      (accepted-bytes tcForm m s k (digits 8 round) (bytes_of (entries ps highs)) refl (length_digits 8 round) (entries-length ps highs)
+      (accepted-bytes tc_form m s k (digits 8 round) (bytes_of (entries ps highs)) refl (length_digits 8 round) (entries-length ps highs)
       (tc-places-at highs ps (digits 8 round ++ (digits 1 1 ++ digits 2 (count s))) (three-more (digits 8 round) (count s) (length_digits 8 round)) (places-small s.0)))
 
   -- ---- inside a block or a timeout
 
-  genesis-bytes : equalsGenesis (qcBytes newCore.high_qc) ≡ true
-  unfolding equalsGenesis isGenesis hashAt num_at le qcBytes bytes_of digits hashBytes places_of placesFrom
+  genesis-bytes : equals_genesis (qc_bytes new_core.high_qc) ≡ true
+  unfolding equals_genesis is_genesis hash_at num_at le qc_bytes bytes_of digits hash_bytes places_of places_from
   genesis-bytes = refl
 
-  pub genesis-good : GoodQC m newCore.high_qc
-  genesis-good = rw genesis-bytes (genesis-accepted m (quorumOf m) (qcBytes newCore.high_qc) genesis-bytes)
+  pub genesis-good : GoodQC m new_core.high_qc
+  genesis-good = rw genesis-bytes (genesis-accepted m (quorum_of m) (qc_bytes new_core.high_qc) genesis-bytes)
 
   pub quorate-good : (q : QC) → Quorate m q.signers → GoodQC m q
-  quorate-good q k = cases (equalsGenesis (qcBytes q)) refl
+  quorate-good q k = cases (equals_genesis (qc_bytes q)) refl
     where
-      cases : (b : Bool) → equalsGenesis (qcBytes q) ≡ b → GoodQC m q
-      cases true e = rw e (genesis-accepted m (quorumOf m) (qcBytes q) e)
-      cases false e = rw (e, embedded-part m (quorumOf m) (qcBytes q) e) (qc-part-accepted q k)
+      cases : (b : Bool) → equals_genesis (qc_bytes q) ≡ b → GoodQC m q
+      cases true e = rw e (genesis-accepted m (quorum_of m) (qc_bytes q) e)
+      cases false e = rw (e, embedded-part m (quorum_of m) (qc_bytes q) e) (qc-part-accepted q k)

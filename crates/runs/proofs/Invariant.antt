@@ -22,29 +22,29 @@ use Rattle.certificates.specs.declared.numbers.Stake.{Stake}
 use Rattle.certificates.specs.declared.config.Setup.{Setup}
 use Rattle.certificates.specs.declared.config.Setup.TheVariants.{Total}
 use Rattle.certificates.specs.declared.messages.Checked.TheVariants.{Accepted}
-use Rattle.certificates.specs.Config.{membersMax, stakeOf, sum, quorumOf, setupOf}
-use Rattle.certificates.specs.Messages.{qcCheck}
-use Rattle.certificates.specs.Signers.{isIn, words}
-use Rattle.certificates.specs.Start.{setupAt}
+use Rattle.certificates.specs.Config.{members_max, stake_of, sum, quorum_of, setup_of}
+use Rattle.certificates.specs.Messages.{qc_check}
+use Rattle.certificates.specs.Signers.{is_in, words}
+use Rattle.certificates.specs.Start.{setup_at}
 use Rattle.certificates.proofs.Check.{Known}
 use Rattle.certificates.proofs.ConfigLaws.{stake-member, within}
 use Rattle.certificates.proofs.SignersLaws.{signer-none}
 use Rattle.certificates.proofs.StartLaws as start
 use Rattle.outputs.specs.Records.{Rec}
 use Rattle.aggregator.specs.declared.tallies.Added.TheVariants.{Full}
-use Rattle.aggregator.specs.Tally.{voteWidth, timeoutWidth}
-use Rattle.aggregator.specs.Tallies.{voteTallies, timeoutTallies, votesLength, timeoutsLength, heavy, voteAdded, timeoutAdded}
+use Rattle.aggregator.specs.Tally.{vote_width, timeout_width}
+use Rattle.aggregator.specs.Tallies.{vote_tallies, timeout_tallies, votes_length, timeouts_length, heavy, vote_added, timeout_added}
 use Rattle.aggregator.proofs.TableLaws.{Each}
 use Rattle.aggregator.proofs.Laws.{light-heavy}
 use Rattle.moves.specs.State.{State}
-use Rattle.moves.specs.Tallied.{qcOf}
+use Rattle.moves.specs.Tallied.{qc_of}
 use Rattle.replica.specs.declared.started.Seat.{Seat}
-use Rattle.replica.specs.Started.{members_of, shaped, lightIn, startedOf}
-use Rattle.replica.specs.Step.{World, Result, newSeat, newStakes, committee, started}
+use Rattle.replica.specs.Started.{members_of, shaped, light_in, started_of}
+use Rattle.replica.specs.Step.{World, Result, new_seat, new_stakes, committee, started}
 use Rattle.replica.proofs.StartedLaws.{sized-all, shaped-all}
-use Rattle.runs.specs.Runs.{Event, stepOn, Begun, Written}
-use Rattle.runs.specs.Courses.{Stage, next, worldAfter, outsOf, Course, origin, end, outputs}
-use Rattle.runs.specs.Signed.{Sends, GoodTC, qcBytes}
+use Rattle.runs.specs.Runs.{Event, step_on, Begun, Written}
+use Rattle.runs.specs.Courses.{Stage, next, world_after, outs_of, Course, origin, end, outputs}
+use Rattle.runs.specs.Signed.{Sends, GoodTC, qc_bytes}
 use Rattle.runs.proofs.Steps.{step-lawful, starts}
 use Rattle.runs.proofs.Tallied.{Tallied, tallied-light}
 use Rattle.runs.proofs.Certificates.{quorate-qc, quorate-tc}
@@ -56,9 +56,9 @@ pub record Invariant (seat : Seat) (stakes : List ℕ) (w : World) : Type 0 wher
   -- count, own place and stakes are as START left them, within the limits
   pub seated : w.seat ≡ seat
   pub staked : w.stakes ≡ stakes
-  pub shape : shaped seat (length stakes) votesLength timeoutsLength ≡ true
+  pub shape : shaped seat (length stakes) votes_length timeouts_length ≡ true
   pub total : Stake
-  pub setup : setupOf (members_of seat stakes) ≡ Total total
+  pub setup : setup_of (members_of seat stakes) ≡ Total total
   -- tallies, high QC and rounds
   pub state : Kept (members_of seat stakes) unknown w.state
 
@@ -68,8 +68,8 @@ pub record Well (seat : Seat) (stakes : List ℕ) (x : Result) : Type 0 where
 
 -- ---- such a world counts as started
 
-light-total : (votes timeouts : List ℕ) (t : Stake) (s : Setup) → s ≡ Total t → heavy voteWidth voteTallies votes t.0 ≡ false → heavy timeoutWidth timeoutTallies timeouts t.0 ≡ false
-    → lightIn votes timeouts s ≡ Total t
+light-total : (votes timeouts : List ℕ) (t : Stake) (s : Setup) → s ≡ Total t → heavy vote_width vote_tallies votes t.0 ≡ false → heavy timeout_width timeout_tallies timeouts t.0 ≡ false
+    → light_in votes timeouts s ≡ Total t
 light-total votes timeouts t s e a b = rw (e, a, b)
 
 not-heavy : (m : List ℕ) (by : List ℕ → ℕ → Type 0) (w n : ℕ) (v : List ℕ) (t : Stake) → sum m ≡ t.0 → Each (Tallied m by) w n v → heavy w n v t.0 ≡ false
@@ -77,33 +77,33 @@ not-heavy m by w n v t e all = rw e at (light-heavy w n v (sum m) (tallied-light
 
 -- A world with the invariant counts as started.
 pub invariant-started : {seat : Seat} {stakes : List ℕ} {w : World} (i : Invariant seat stakes w) → started w ≡ Total i.total
-unfolding startedOf
+unfolding started_of
 invariant-started {seat} {stakes} {w} i =
     let m = members_of seat stakes in
     let k = i.state in
     let t : sum m ≡ i.total.0 = sym (within m i.total i.setup).total in
-    let a = not-heavy m (VotesIn unknown) voteWidth voteTallies w.state.votes i.total t k.votes in
-    let b = not-heavy m (ExpiresIn unknown) timeoutWidth timeoutTallies w.state.timeouts i.total t k.timeouts in
-    rw (i.seated, i.staked, k.long, k.wide, i.shape) (light-total w.state.votes w.state.timeouts i.total (setupOf m) i.setup a b)
+    let a = not-heavy m (VotesIn unknown) vote_width vote_tallies w.state.votes i.total t k.votes in
+    let b = not-heavy m (ExpiresIn unknown) timeout_width timeout_tallies w.state.timeouts i.total t k.timeouts in
+    rw (i.seated, i.staked, k.long, k.wide, i.shape) (light-total w.state.votes w.state.timeouts i.total (setup_of m) i.setup a b)
 
 -- ---- START
 
-new-shape : (r : List ℕ) (t : Stake) → setupAt (drop 2 r) ≡ Total t → shaped (newSeat r) (length (newStakes r)) votesLength timeoutsLength ≡ true
-unfolding newStakes
+new-shape : (r : List ℕ) (t : Stake) → setup_at (drop 2 r) ≡ Total t → shaped (new_seat r) (length (new_stakes r)) votes_length timeouts_length ≡ true
+unfolding new_stakes
 new-shape r t e =
     let s = start.started (drop 2 r) t e in
-    rw (start.length-loaded membersMax (drop 2 r)) (sym (shaped-all membersMax votesLength timeoutsLength (newSeat r) s.few s.own (sized-all membersMax votesLength timeoutsLength refl refl)))
+    rw (start.length-loaded members_max (drop 2 r)) (sym (shaped-all members_max votes_length timeouts_length (new_seat r) s.few s.own (sized-all members_max votes_length timeouts_length refl refl)))
 
-new-setup : (r : List ℕ) (t : Stake) → setupAt (drop 2 r) ≡ Total t → setupOf (members_of (newSeat r) (newStakes r)) ≡ Total t
-unfolding newStakes
-new-setup r t e = start.loaded-setup membersMax (drop 2 r) t (omega arith) e
+new-setup : (r : List ℕ) (t : Stake) → setup_at (drop 2 r) ≡ Total t → setup_of (members_of (new_seat r) (new_stakes r)) ≡ Total t
+unfolding new_stakes
+new-setup r t e = start.loaded-setup members_max (drop 2 r) t (omega arith) e
 
 -- After a START that was taken the invariant holds, and what START writes passes the check.
-pub invariant-start : (w : World) (e : Event) → Begun w e → Well (newSeat e.bytes) (newStakes e.bytes) (stepOn w e)
+pub invariant-start : (w : World) (e : Event) → Begun w e → Well (new_seat e.bytes) (new_stakes e.bytes) (step_on w e)
 invariant-start w e b =
     let s = starts w e b in
     let r = e.bytes in
-    let m = members_of (newSeat r) (newStakes r) in
+    let m = members_of (new_seat r) (new_stakes r) in
     rw s.is
     (record {
       world = record {
@@ -114,14 +114,14 @@ invariant-start w e b =
         setup = new-setup r s.total s.setup;
         state = kept_new m unknown;
       };
-      outs = every_map (λ a h. h.sends) (writes-announced m unknown (newSeat r).own.0);
+      outs = every_map (λ a h. h.sends) (writes-announced m unknown (new_seat r).own.0);
     })
 
 -- ---- every step
 
 module _ {seat : Seat} {stakes : List ℕ} where
   -- Every step keeps the invariant, and what it writes passes the check.
-  pub invariant-step : (w : World) → Invariant seat stakes w → (e : Event) → Well seat stakes (stepOn w e)
+  pub invariant-step : (w : World) → Invariant seat stakes w → (e : Event) → Well seat stakes (step_on w e)
   invariant-step w i e =
       let s = invariant-started i in
       let l = step-lawful w e i.total s in
@@ -135,7 +135,7 @@ module _ {seat : Seat} {stakes : List ℕ} where
   -- A restart keeps it too.
   pub invariant-next : (w : World) → Invariant seat stakes w → (g : Stage) → Invariant seat stakes (next w g)
   invariant-next w i g =
-      let x = (stepOn w g.event).world in
+      let x = (step_on w g.event).world in
       let k = (invariant-step w i g.event).world in
       let l = leaves-seat g x in
       record {
@@ -147,13 +147,13 @@ module _ {seat : Seat} {stakes : List ℕ} where
         state = leaves_kept g x (members_of seat stakes) unknown k.state;
       }
 
-  invariant-stages : (w : World) → Invariant seat stakes w → (ss : List Stage) → Invariant seat stakes (worldAfter w ss)
-  unfolding worldAfter
+  invariant-stages : (w : World) → Invariant seat stakes w → (ss : List Stage) → Invariant seat stakes (world_after w ss)
+  unfolding world_after
   invariant-stages w i [] = i
   invariant-stages w i (g ∷ gs) = invariant-stages (next w g) (invariant-next w i g) gs
 
-  outs-stages : (w : World) → Invariant seat stakes w → (ss : List Stage) → Every (Sends (members_of seat stakes)) (outsOf w ss)
-  unfolding outsOf
+  outs-stages : (w : World) → Invariant seat stakes w → (ss : List Stage) → Every (Sends (members_of seat stakes)) (outs_of w ss)
+  unfolding outs_of
   outs-stages w i [] = none
   outs-stages w i (g ∷ gs) = every_append (invariant-step w i g.event).outs (outs-stages (next w g) (invariant-next w i g) gs)
 
@@ -161,10 +161,10 @@ module _ {seat : Seat} {stakes : List ℕ} where
 
 module _ (r : Course) where
   -- the committee that START left
-  abbrev pub committeeOf : List ℕ
-  committeeOf = committee (origin r)
+  abbrev pub committee_of : List ℕ
+  committee_of = committee (origin r)
 
-  start-well : Well (origin r).seat (origin r).stakes (stepOn r.lent r.start)
+  start-well : Well (origin r).seat (origin r).stakes (step_on r.lent r.start)
   start-well = let h = invariant-start r.lent r.start r.begun in rw (← h.world.seated, ← h.world.staked) at h
 
   -- The invariant holds of the world that a course leaves, with the seat and the stakes that START left. A course as far as any of its stages is a course, so it holds
@@ -173,7 +173,7 @@ module _ (r : Course) where
   invariant-course = invariant-stages (origin r) start-well.world r.stages
 
   -- The signers of the high QC that a course leaves are members of its committee.
-  pub high-signers : (p : ℕ) → isIn (words (end r).state.core.high_qc.signers) p ≡ 1 → p < length (committee (origin r))
+  pub high-signers : (p : ℕ) → is_in (words (end r).state.core.high_qc.signers) p ≡ 1 → p < length (committee (origin r))
   high-signers p h = cases invariant-course.state.high
     where
       cases : Backed (committee (origin r)) unknown (end r).state.core.high_qc → p < length (committee (origin r))
@@ -188,11 +188,11 @@ module _ (r : Course) where
 
 module _ (m : List ℕ) {g : Signatures} {s : State} (k : Kept m g s) (p : ℕ) (who : Known m p) where
   -- A QC that a tally of votes makes, laid out as a certificate with the result yes, passes the check.
-  pub made-qc-accepted : (hash : Hash) (round : ℕ) {i : ℕ} {q : Signers} → voteAdded s.votes round hash p (stakeOf m p) (quorumOf m) ≡ Full i q
-      → qcCheck m (quorumOf m) (qcBytes (qcOf hash round q)) ≡ Accepted q
-  made-qc-accepted hash round {q = q} e = quorate-qc m (qcOf hash round q) (vote-quorate m g k p who hash round e)
+  pub made-qc-accepted : (hash : Hash) (round : ℕ) {i : ℕ} {q : Signers} → vote_added s.votes round hash p (stake_of m p) (quorum_of m) ≡ Full i q
+      → qc_check m (quorum_of m) (qc_bytes (qc_of hash round q)) ≡ Accepted q
+  made-qc-accepted hash round {q = q} e = quorate-qc m (qc_of hash round q) (vote-quorate m g k p who hash round e)
 
   -- A TC that a tally of timeouts makes, likewise, with the high rounds of its row.
-  pub made-tc-accepted : (round high : ℕ) (highs : List ℕ) {i : ℕ} {q : Signers} → timeoutAdded s.timeouts round p (stakeOf m p) (quorumOf m) ≡ Full i q
+  pub made-tc-accepted : (round high : ℕ) (highs : List ℕ) {i : ℕ} {q : Signers} → timeout_added s.timeouts round p (stake_of m p) (quorum_of m) ≡ Full i q
       → GoodTC m round q.0 highs
   made-tc-accepted round high highs {q = q} e = quorate-tc m round q highs (timeout-quorate m g k p who round high e)

@@ -26,29 +26,29 @@ use lib.ListN.{length, get_or, replicate, length-replicate}
 use Rattle.certificates.specs.declared.numbers.Hash.{Hash}
 use Rattle.certificates.specs.declared.numbers.Signers.{Signers}
 use Rattle.certificates.specs.declared.messages.QC.{QC}
-use Rattle.certificates.specs.Config.{stakeOf, quorumOf}
-use Rattle.certificates.specs.Numbers.{zeroHash}
-use Rattle.certificates.specs.Signers.{isIn, words}
-use Rattle.certificates.specs.Messages.{isGenesis}
+use Rattle.certificates.specs.Config.{stake_of, quorum_of}
+use Rattle.certificates.specs.Numbers.{zero_hash}
+use Rattle.certificates.specs.Signers.{is_in, words}
+use Rattle.certificates.specs.Messages.{is_genesis}
 use Rattle.certificates.proofs.Check.{Known}
-use Rattle.outputs.specs.Records.{Rec, vote, timeout, tc, make, makeWith, commit, sync, cleanProposer, cleanMempool, timerReset, answer}
+use Rattle.outputs.specs.Records.{Rec, vote, timeout, tc, make, make_with, commit, sync, clean_proposer, clean_mempool, timer_reset, answer}
 use Rattle.aggregator.specs.declared.tallies.Added.{Added}
 use Rattle.aggregator.specs.declared.tallies.Added.TheVariants.{NoRoom, Used, More, Full}
 use Rattle.aggregator.specs.Rows.{row}
-use Rattle.aggregator.specs.Tally.{fields, voteWidth, timeoutWidth, roundOf, hashOf, newVote, newTimeout, signers}
-use Rattle.aggregator.specs.Tallies.{voteTallies, timeoutTallies, votesLength, timeoutsLength, voteAdded, votesAfter, timeoutAdded, timeoutsAfter, highsAt}
+use Rattle.aggregator.specs.Tally.{fields, vote_width, timeout_width, round_of, hash_of, new_vote, new_timeout, signers}
+use Rattle.aggregator.specs.Tallies.{vote_tallies, timeout_tallies, votes_length, timeouts_length, vote_added, votes_after, timeout_added, timeouts_after, highs_at}
 use Rattle.aggregator.proofs.TallyLaws.{vote-kind, timeout-kind, author-round, author-hash, author-high, author-highs, vote-is, timeout-is}
 use Rattle.aggregator.proofs.TableLaws.{Each, each-dropped, each-zeros}
 use Rattle.aggregator.proofs.Additions.{vote-addition, timeout-addition, addition-each, counted-passes}
 use Rattle.aggregator.proofs.Laws.{dropped-length, votes-after-length, timeouts-after-length, vote-full, timeout-full, highs-row}
 use Rattle.moves.specs.declared.state.Core.{Core}
-use Rattle.moves.specs.State.{State, whole, withVotes, withTimeouts, withCore}
+use Rattle.moves.specs.State.{State, whole, with_votes, with_timeouts, with_core}
 use Rattle.moves.specs.Outcome.{Step, quiet, and_then}
-use Rattle.moves.specs.Moves.{advanced, raised, takenQC, leads, makeOf, makeWithOf, certified, tcOuts, timedOut}
-use Rattle.moves.specs.Tallied.{qcOf, afterVote, voteTallied, afterTimeout, timeoutTallied}
+use Rattle.moves.specs.Moves.{advanced, raised, taken_qc, leads, make_of, make_with_of, certified, tc_outs, timed_out}
+use Rattle.moves.specs.Tallied.{qc_of, after_vote, vote_tallied, after_timeout, timeout_tallied}
 use Rattle.moves.proofs.MoveLaws.{advanced-below, advanced-at, raised-above, raised-not, taken_is, certified-is, timed-out-is}
 use Rattle.moves.proofs.TallyLaws.{vote-tallied-is, timeout-tallied-is}
-use Rattle.replica.specs.Step.{newCore, newState, announced}
+use Rattle.replica.specs.Step.{new_core, new_state, announced}
 use Rattle.runs.specs.Runs.{Written}
 use Rattle.runs.specs.Signed.{Sends, GoodQC}
 use Rattle.runs.proofs.Plain.{advanced-above}
@@ -69,10 +69,10 @@ unknown = record { votes = λ p h n. Unit {0}; expires = λ p t h. Unit {0} }
 
 -- the place signed what a tally of votes counts, and what a tally of timeouts counts
 abbrev pub VotesIn : Signatures → List ℕ → ℕ → Type 0
-VotesIn g t p = g.votes p (hashOf t) (roundOf t)
+VotesIn g t p = g.votes p (hash_of t) (round_of t)
 
 abbrev pub ExpiresIn : Signatures → List ℕ → ℕ → Type 0
-ExpiresIn g t p = g.expires p (roundOf t) (get_or t (fields + p) 0)
+ExpiresIn g t p = g.expires p (round_of t) (get_or t (fields + p) 0)
 
 -- ---- records
 
@@ -96,8 +96,8 @@ every-written P {rs} {a} e w = there w.before (rw w.is at e)
     there [] (more h p) = h
     there (x ∷ xs) (more h p) = there xs p
 
-pub genesis-new : isGenesis zeroHash 0 ≡ true
-unfolding isGenesis
+pub genesis-new : is_genesis zero_hash 0 ≡ true
+unfolding is_genesis
 genesis-new = refl
 
 module _ (m : List ℕ) (g : Signatures) where
@@ -106,34 +106,34 @@ module _ (m : List ℕ) (g : Signatures) where
   pub record Backs (h : Hash) (n : ℕ) : Type 0 where
     pub names : Signers
     pub quorum : Quorate m names
-    pub signed : (p : ℕ) → isIn (words names) p ≡ 1 → g.votes p h n
+    pub signed : (p : ℕ) → is_in (words names) p ≡ 1 → g.votes p h n
 
   pub record Closes (t : ℕ) (names : Signers) (highs : List ℕ) : Type 0 where
     pub quorum : Quorate m names
-    pub signed : (p : ℕ) → isIn (words names) p ≡ 1 → g.expires p t (get_or highs p 0)
+    pub signed : (p : ℕ) → is_in (words names) p ≡ 1 → g.expires p t (get_or highs p 0)
 
   pub data Backed (q : QC) : Type 0 where
-    first : q ≡ newCore.high_qc → Backed q
-    backed : Quorate m q.signers → ((p : ℕ) → isIn (words q.signers) p ≡ 1 → g.votes p q.hash q.round.0) → Backed q
+    first : q ≡ new_core.high_qc → Backed q
+    backed : Quorate m q.signers → ((p : ℕ) → is_in (words q.signers) p ≡ 1 → g.votes p q.hash q.round.0) → Backed q
 
   pub backed-good : (q : QC) → Backed q → GoodQC m q
   backed-good q (first e) = rw e (genesis-good m)
   backed-good q (backed k s) = quorate-good m q k
 
-  pub backed-backs : (q : QC) → Backed q → isGenesis q.hash q.round.0 ≡ false → Backs q.hash q.round.0
+  pub backed-backs : (q : QC) → Backed q → is_genesis q.hash q.round.0 ≡ false → Backs q.hash q.round.0
   backed-backs q (first e) f =
-      absurd (let x : isGenesis zeroHash 0 ≡ false = rw e at f in let y : ◌≡◌ {A = Bool} true false = sym genesis-new ∙ x in let z : ◌≡◌ {A = ℕ} 0 1 = cc in omega arith)
+      absurd (let x : is_genesis zero_hash 0 ≡ false = rw e at f in let y : ◌≡◌ {A = Bool} true false = sym genesis-new ∙ x in let z : ◌≡◌ {A = ℕ} 0 1 = cc in omega arith)
   backed-backs q (backed k s) f = record { names = q.signers; quorum = k; signed = s }
 
   -- ---- what holds
 
   pub record Kept (s : State) : Type 0 where
     -- the tables of tallies have their sizes
-    pub long : length s.votes ≡ votesLength
-    pub wide : length s.timeouts ≡ timeoutsLength
+    pub long : length s.votes ≡ votes_length
+    pub wide : length s.timeouts ≡ timeouts_length
     -- in every tally in use the names are members with stake that signed, and the weight is their stake until its certificate was given out
-    pub votes : Each (Tallied m (VotesIn g)) voteWidth voteTallies s.votes
-    pub timeouts : Each (Tallied m (ExpiresIn g)) timeoutWidth timeoutTallies s.timeouts
+    pub votes : Each (Tallied m (VotesIn g)) vote_width vote_tallies s.votes
+    pub timeouts : Each (Tallied m (ExpiresIn g)) timeout_width timeout_tallies s.timeouts
     -- the high QC is genesis, or a quorum of members with stake signed it
     pub high : Backed s.core.high_qc
     -- its round is below the round
@@ -146,12 +146,12 @@ module _ (m : List ℕ) (g : Signatures) where
   Makes c (timeout round high) = Unit {0}
   Makes c (tc round names highs) = Closes round (signers names) highs
   Makes c (make round high) = high ≡ c.high_qc
-  Makes c (makeWith round high of names highs) = (high ≡ c.high_qc) × Closes of (signers names) highs × (of < c.round.0)
+  Makes c (make_with round high of names highs) = (high ≡ c.high_qc) × Closes of (signers names) highs × (of < c.round.0)
   Makes c (commit digest round) = Unit {0}
   Makes c (sync parent block author) = Unit {0}
-  Makes c (cleanProposer b0 b1 block) = Unit {0}
-  Makes c (cleanMempool round) = Unit {0}
-  Makes c timerReset = Unit {0}
+  Makes c (clean_proposer b0 b1 block) = Unit {0}
+  Makes c (clean_mempool round) = Unit {0}
+  Makes c timer_reset = Unit {0}
   Makes c (answer n) = Unit {0}
 
   pub record Writes (c : Core) (a : Rec) : Type 0 where
@@ -171,7 +171,7 @@ module _ (m : List ℕ) (g : Signatures) where
   MayTake q = 0 < q.round.0 → Backed q
 
   -- a high QC other than genesis is backed
-  pub high-backs : {s : State} → Kept s → let q = s.core.high_qc in isGenesis q.hash q.round.0 ≡ false → Backs q.hash q.round.0
+  pub high-backs : {s : State} → Kept s → let q = s.core.high_qc in is_genesis q.hash q.round.0 ≡ false → Backs q.hash q.round.0
   high-backs {s} k = backed-backs s.core.high_qc k.high
 
   -- ---- steps
@@ -192,28 +192,28 @@ module _ (m : List ℕ) (g : Signatures) where
   begins-then f b h = let n = h b.state in record { state = n.state; outs = λ c. every_append (b.outs c) (n.outs c) }
 
   -- the part by value changes
-  pub kept-core : {s : State} → Kept s → (c : Core) → Backed c.high_qc → c.high_qc.round.0 < c.round.0 → c.last_voted_round.0 ≤ c.round.0 → Kept (withCore s c)
+  pub kept-core : {s : State} → Kept s → (c : Core) → Backed c.high_qc → c.high_qc.round.0 < c.round.0 → c.last_voted_round.0 ≤ c.round.0 → Kept (with_core s c)
   kept-core k c h b v = record { long = k.long; wide = k.wide; votes = k.votes; timeouts = k.timeouts; high = h; below = b; voted = v }
 
   -- ---- START, and empty tallies
 
   kept-zeros : (c : Core) → Backed c.high_qc → c.high_qc.round.0 < c.round.0 → c.last_voted_round.0 ≤ c.round.0
-      → Kept (whole c (replicate votesLength 0) (replicate timeoutsLength 0))
+      → Kept (whole c (replicate votes_length 0) (replicate timeouts_length 0))
   kept-zeros c h b v =
       record {
-        long = length-replicate {A = ℕ} votesLength 0;
-        wide = length-replicate {A = ℕ} timeoutsLength 0;
-        votes = each-zeros (Tallied m (VotesIn g)) voteWidth voteTallies votesLength (omega arith);
-        timeouts = each-zeros (Tallied m (ExpiresIn g)) timeoutWidth timeoutTallies timeoutsLength (omega arith);
+        long = length-replicate {A = ℕ} votes_length 0;
+        wide = length-replicate {A = ℕ} timeouts_length 0;
+        votes = each-zeros (Tallied m (VotesIn g)) vote_width vote_tallies votes_length (omega arith);
+        timeouts = each-zeros (Tallied m (ExpiresIn g)) timeout_width timeout_tallies timeouts_length (omega arith);
         high = h;
         below = b;
         voted = v;
       }
 
-  pub kept_new : Kept newState
-  kept_new = kept-zeros newCore (first refl) (omega arith) (omega arith)
+  pub kept_new : Kept new_state
+  kept_new = kept-zeros new_core (first refl) (omega arith) (omega arith)
 
-  pub kept-emptied : {s : State} → Kept s → Kept (whole s.core (replicate votesLength 0) (replicate timeoutsLength 0))
+  pub kept-emptied : {s : State} → Kept s → Kept (whole s.core (replicate votes_length 0) (replicate timeouts_length 0))
   kept-emptied {s} k = kept-zeros s.core k.high k.below k.voted
 
   -- ---- advance, take
@@ -227,10 +227,10 @@ module _ (m : List ℕ) (g : Signatures) where
           rw (advanced-at s r (ltb-false _ _ e))
           (record {
             state = record {
-              long = dropped-length voteWidth voteTallies s.votes (r + 1) ∙ k.long;
-              wide = dropped-length timeoutWidth timeoutTallies s.timeouts (r + 1) ∙ k.wide;
-              votes = each-dropped (Tallied m (VotesIn g)) voteWidth voteTallies s.votes (r + 1) (omega (arith, k.long)) k.votes;
-              timeouts = each-dropped (Tallied m (ExpiresIn g)) timeoutWidth timeoutTallies s.timeouts (r + 1) (omega (arith, k.wide)) k.timeouts;
+              long = dropped-length vote_width vote_tallies s.votes (r + 1) ∙ k.long;
+              wide = dropped-length timeout_width timeout_tallies s.timeouts (r + 1) ∙ k.wide;
+              votes = each-dropped (Tallied m (VotesIn g)) vote_width vote_tallies s.votes (r + 1) (omega (arith, k.long)) k.votes;
+              timeouts = each-dropped (Tallied m (ExpiresIn g)) timeout_width timeout_tallies s.timeouts (r + 1) (omega (arith, k.wide)) k.timeouts;
               high = k.high;
               below = omega (arith, k.below, ltb-false r s.core.round.0 e);
               voted = omega (arith, k.voted, ltb-false r s.core.round.0 e);
@@ -238,23 +238,23 @@ module _ (m : List ℕ) (g : Signatures) where
             outs = λ c. more (record { sends = tt; makes = tt }) none;
           })
 
-  kept-raised : {s : State} → Kept s → (q : QC) → MayTake q → q.round.0 < s.core.round.0 → Kept (withCore s (raised s.core q))
+  kept-raised : {s : State} → Kept s → (q : QC) → MayTake q → q.round.0 < s.core.round.0 → Kept (with_core s (raised s.core q))
   kept-raised {s} k q t h = cases (ltb s.core.high_qc.round.0 q.round.0) refl
     where
-      cases : (b : Bool) → ltb s.core.high_qc.round.0 q.round.0 ≡ b → Kept (withCore s (raised s.core q))
+      cases : (b : Bool) → ltb s.core.high_qc.round.0 q.round.0 ≡ b → Kept (with_core s (raised s.core q))
       cases true e = rw (raised-above s.core q (ltb-true _ _ e)) (kept-core k _ (t (omega (arith, ltb-true s.core.high_qc.round.0 q.round.0 e))) h k.voted)
       cases false e = rw (raised-not s.core q (ltb-false _ _ e)) k
 
-  pub begins-taken : {s : State} → Kept s → (q : QC) → MayTake q → Begins (takenQC s q)
+  pub begins-taken : {s : State} → Kept s → (q : QC) → MayTake q → Begins (taken_qc s q)
   begins-taken {s} k q t =
       rw (taken_is s q)
-      (begins-then (λ (u : State). quiet (withCore u (raised u.core q))) (begins-advanced k q.round.0)
+      (begins-then (λ (u : State). quiet (with_core u (raised u.core q))) (begins-advanced k q.round.0)
       (λ n. begins-quiet (kept-raised n q t (advanced-above s q.round.0))))
 
   -- ---- MAKE
 
-  writes-make : (own : ℕ) {s : State} → Kept s → Every (Writes s.core) (makeOf m own s.core)
-  unfolding makeOf
+  writes-make : (own : ℕ) {s : State} → Kept s → Every (Writes s.core) (make_of m own s.core)
+  unfolding make_of
   writes-make own {s} k = cases (leads m own s.core)
     where
       cases : (b : Bool) → Every (Writes s.core) (cond b (make s.core.round.0 s.core.high_qc ∷ []) [])
@@ -262,67 +262,67 @@ module _ (m : List ℕ) (g : Signatures) where
       cases false = none
 
   pub writes-make-with : (own : ℕ) {s : State} → Kept s → (of : ℕ) (names : Signers) (highs : List ℕ) → Closes of names highs → of < s.core.round.0
-      → Every (Writes s.core) (makeWithOf m own s.core of names.0 highs)
-  unfolding makeWithOf
+      → Every (Writes s.core) (make_with_of m own s.core of names.0 highs)
+  unfolding make_with_of
   writes-make-with own {s} k of names highs c l = cases (leads m own s.core)
     where
-      cases : (b : Bool) → Every (Writes s.core) (cond b (makeWith s.core.round.0 s.core.high_qc of names.0 highs ∷ []) [])
+      cases : (b : Bool) → Every (Writes s.core) (cond b (make_with s.core.round.0 s.core.high_qc of names.0 highs ∷ []) [])
       cases true =
-          more {a = makeWith s.core.round.0 s.core.high_qc of names.0 highs}
+          more {a = make_with s.core.round.0 s.core.high_qc of names.0 highs}
           (record { sends = (backed-good s.core.high_qc k.high, quorate-tc m of names highs c.quorum); makes = (refl, c, l) }) none
       cases false = none
 
   -- what START writes
-  pub writes-announced : (own : ℕ) → Every (Writes newCore) (announced m own newCore)
+  pub writes-announced : (own : ℕ) → Every (Writes new_core) (announced m own new_core)
   unfolding announced
   writes-announced own = more (record { sends = tt; makes = tt }) (writes-make own kept_new)
 
   good-certified : (own : ℕ) {s : State} → Kept s → (q : QC) → MayTake q → Good (certified m own s q)
   good-certified own {s} k q t =
       rw (certified-is m own s q)
-      (good-then (λ (u : State). record { state = u; outs = makeOf m own u.core }) (begins-taken k q t) (λ n. record { state = n; outs = writes-make own n }))
+      (good-then (λ (u : State). record { state = u; outs = make_of m own u.core }) (begins-taken k q t) (λ n. record { state = n; outs = writes-make own n }))
 
   writes-tc : (own : ℕ) {s : State} → Kept s → (round : ℕ) (names : Signers) (highs : List ℕ) → Closes round names highs → round < s.core.round.0
-      → Every (Writes s.core) (tcOuts m own s.core round names.0 highs)
-  unfolding tcOuts
+      → Every (Writes s.core) (tc_outs m own s.core round names.0 highs)
+  unfolding tc_outs
   writes-tc own k round names highs c l =
       more {a = tc round names.0 highs} (record { sends = quorate-tc m round names highs c.quorum; makes = c }) (writes-make-with own k round names highs c l)
 
-  good-timed-out : (own : ℕ) {s : State} → Kept s → (round : ℕ) (names : Signers) (highs : List ℕ) → Closes round names highs → Good (timedOut m own s round names.0 highs)
+  good-timed-out : (own : ℕ) {s : State} → Kept s → (round : ℕ) (names : Signers) (highs : List ℕ) → Closes round names highs → Good (timed_out m own s round names.0 highs)
   good-timed-out own {s} k round names highs c =
       rw (timed-out-is m own s round names.0 highs)
-      (good-then (λ (u : State). record { state = u; outs = tcOuts m own u.core round names.0 highs }) (begins-advanced k round)
+      (good-then (λ (u : State). record { state = u; outs = tc_outs m own u.core round names.0 highs }) (begins-advanced k round)
       (λ n. record { state = n; outs = writes-tc own n round names highs c (advanced-above s round) }))
 
   -- ---- tallies
 
   module _ {s : State} (k : Kept s) (p : ℕ) (who : Known m p) where
     -- a QC that a tally of votes makes: members with stake, and a quorum
-    pub vote-quorate : (hash : Hash) (round : ℕ) {i : ℕ} {q : Signers} → voteAdded s.votes round hash p (stakeOf m p) (quorumOf m) ≡ Full i q → Quorate m q
+    pub vote-quorate : (hash : Hash) (round : ℕ) {i : ℕ} {q : Signers} → vote_added s.votes round hash p (stake_of m p) (quorum_of m) ≡ Full i q → Quorate m q
     vote-quorate hash round e =
-        filled-quorate m (VotesIn g) (vote-kind round hash) p who (vote-full s.votes round hash p (stakeOf m p) (quorumOf m) k.long e) k.votes
+        filled-quorate m (VotesIn g) (vote-kind round hash) p who (vote-full s.votes round hash p (stake_of m p) (quorum_of m) k.long e) k.votes
 
     -- a TC that a tally of timeouts makes, likewise
-    pub timeout-quorate : (round high : ℕ) {i : ℕ} {q : Signers} → timeoutAdded s.timeouts round p (stakeOf m p) (quorumOf m) ≡ Full i q → Quorate m q
+    pub timeout-quorate : (round high : ℕ) {i : ℕ} {q : Signers} → timeout_added s.timeouts round p (stake_of m p) (quorum_of m) ≡ Full i q → Quorate m q
     timeout-quorate round high e =
-        filled-quorate m (ExpiresIn g) (timeout-kind round p high) p who (timeout-full s.timeouts round p (stakeOf m p) (quorumOf m) high k.wide e) k.timeouts
+        filled-quorate m (ExpiresIn g) (timeout-kind round p high) p who (timeout-full s.timeouts round p (stake_of m p) (quorum_of m) high k.wide e) k.timeouts
 
     -- L8: a new name is that of one that signed
     module _ (hash : Hash) (round : ℕ) (signed : g.votes p hash round) where
       abbrev votes-left : List ℕ
-      votes-left = votesAfter s.votes round hash p (stakeOf m p) (quorumOf m)
+      votes-left = votes_after s.votes round hash p (stake_of m p) (quorum_of m)
 
-      kept-votes : Kept (withVotes s votes-left)
+      kept-votes : Kept (with_votes s votes-left)
       kept-votes =
           let kind = vote-kind round hash in
           record {
-            long = votes-after-length s.votes round hash p (stakeOf m p) (quorumOf m) k.long;
+            long = votes-after-length s.votes round hash p (stake_of m p) (quorum_of m) k.long;
             wide = k.wide;
-            votes = addition-each (Tallied m (VotesIn g)) kind (vote-addition s.votes round hash p (stakeOf m p) (quorumOf m) k.long) k.votes
-                (tallied-new m (VotesIn g) (newVote round hash) kind.weight kind.names)
+            votes = addition-each (Tallied m (VotesIn g)) kind (vote-addition s.votes round hash p (stake_of m p) (quorum_of m) k.long) k.votes
+                (tallied-new m (VotesIn g) (new_vote round hash) kind.weight kind.names)
                 (λ t l x y z.
-                let of = author-hash t p (stakeOf m p) (quorumOf m) in
-                let at = author-round kind.marks t p (stakeOf m p) (quorumOf m) in
+                let of = author-hash t p (stake_of m p) (quorum_of m) in
+                let at = author-round kind.marks t p (stake_of m p) (quorum_of m) in
                 tallied-more m (VotesIn g) kind p who t l y z
                 (rw (VotesIn, of, at, (vote-is round hash t x).0, (vote-is round hash t x).1) signed) (λ q n v. rw (VotesIn, of, at) v));
             timeouts = k.timeouts;
@@ -332,59 +332,59 @@ module _ (m : List ℕ) (g : Signatures) where
           }
 
       -- what a tally of votes gives out backs its hash and round
-      vote-backed : {i : ℕ} {q : Signers} → voteAdded s.votes round hash p (stakeOf m p) (quorumOf m) ≡ Full i q → Backed (qcOf hash round q)
+      vote-backed : {i : ℕ} {q : Signers} → vote_added s.votes round hash p (stake_of m p) (quorum_of m) ≡ Full i q → Backed (qc_of hash round q)
       vote-backed {i} e =
-          let f = vote-full s.votes round hash p (stakeOf m p) (quorumOf m) k.long e in
-          let is = vote-is round hash (row voteWidth votes-left i) (counted-passes (vote-kind round hash) f.counted) in
+          let f = vote-full s.votes round hash p (stake_of m p) (quorum_of m) k.long e in
+          let is = vote-is round hash (row vote_width votes-left i) (counted-passes (vote-kind round hash) f.counted) in
           backed (vote-quorate hash round e) (λ j b. rw (VotesIn, is.0, is.1) at (filled-signed m (VotesIn g) (vote-kind round hash) p who f kept-votes.votes j b))
 
-      pub good-vote : (own : ℕ) → Good (voteTallied m own (quorumOf m) s hash round p (stakeOf m p)).left
-      good-vote own = rw (vote-tallied-is m own (quorumOf m) s hash round p (stakeOf m p)) (cases (voteAdded s.votes round hash p (stakeOf m p) (quorumOf m)) refl)
+      pub good-vote : (own : ℕ) → Good (vote_tallied m own (quorum_of m) s hash round p (stake_of m p)).left
+      good-vote own = rw (vote-tallied-is m own (quorum_of m) s hash round p (stake_of m p)) (cases (vote_added s.votes round hash p (stake_of m p) (quorum_of m)) refl)
         where
-          cases : (a : Added) → voteAdded s.votes round hash p (stakeOf m p) (quorumOf m) ≡ a → Good (afterVote m own s hash round votes-left a).left
+          cases : (a : Added) → vote_added s.votes round hash p (stake_of m p) (quorum_of m) ≡ a → Good (after_vote m own s hash round votes-left a).left
           cases NoRoom e = good-quiet k
           cases Used e = good-quiet k
           cases More e = good-quiet kept-votes
-          cases (Full i names) e = good-certified own kept-votes (qcOf hash round names) (λ h. vote-backed e)
+          cases (Full i names) e = good-certified own kept-votes (qc_of hash round names) (λ h. vote-backed e)
 
     module _ (round high : ℕ) (signed : g.expires p round high) where
       abbrev timeouts-left : List ℕ
-      timeouts-left = timeoutsAfter s.timeouts round p (stakeOf m p) (quorumOf m) high
+      timeouts-left = timeouts_after s.timeouts round p (stake_of m p) (quorum_of m) high
 
-      kept-timeouts : Kept (withTimeouts s timeouts-left)
+      kept-timeouts : Kept (with_timeouts s timeouts-left)
       kept-timeouts =
           let kind = timeout-kind round p high in
           record {
             long = k.long;
-            wide = timeouts-after-length s.timeouts round p (stakeOf m p) (quorumOf m) high k.wide;
+            wide = timeouts-after-length s.timeouts round p (stake_of m p) (quorum_of m) high k.wide;
             votes = k.votes;
-            timeouts = addition-each (Tallied m (ExpiresIn g)) kind (timeout-addition s.timeouts round p (stakeOf m p) (quorumOf m) high k.wide) k.timeouts
-                (tallied-new m (ExpiresIn g) (newTimeout round) kind.weight kind.names)
+            timeouts = addition-each (Tallied m (ExpiresIn g)) kind (timeout-addition s.timeouts round p (stake_of m p) (quorum_of m) high k.wide) k.timeouts
+                (tallied-new m (ExpiresIn g) (new_timeout round) kind.weight kind.names)
                 (λ t l x y z.
-                let at = author-round kind.marks t p (stakeOf m p) (quorumOf m) in
+                let at = author-round kind.marks t p (stake_of m p) (quorum_of m) in
                 tallied-more m (ExpiresIn g) kind p who t l y z
-                (rw (ExpiresIn, at, timeout-is round t x, author-high t p (stakeOf m p) (quorumOf m) high (omega (arith, who.small))) signed)
-                (λ q n v. rw (ExpiresIn, at, author-highs t p (stakeOf m p) (quorumOf m) high q n) v));
+                (rw (ExpiresIn, at, timeout-is round t x, author-high t p (stake_of m p) (quorum_of m) high (omega (arith, who.small))) signed)
+                (λ q n v. rw (ExpiresIn, at, author-highs t p (stake_of m p) (quorum_of m) high q n) v));
             high = k.high;
             below = k.below;
             voted = k.voted;
           }
 
       -- what a tally of timeouts gives out closes its round, with the high rounds of its row
-      timeout-closes : {i : ℕ} {q : Signers} → timeoutAdded s.timeouts round p (stakeOf m p) (quorumOf m) ≡ Full i q → Closes round q (highsAt timeouts-left i)
+      timeout-closes : {i : ℕ} {q : Signers} → timeout_added s.timeouts round p (stake_of m p) (quorum_of m) ≡ Full i q → Closes round q (highs_at timeouts-left i)
       timeout-closes {i} e =
-          let f = timeout-full s.timeouts round p (stakeOf m p) (quorumOf m) high k.wide e in
-          let is = timeout-is round (row timeoutWidth timeouts-left i) (counted-passes (timeout-kind round p high) f.counted) in
+          let f = timeout-full s.timeouts round p (stake_of m p) (quorum_of m) high k.wide e in
+          let is = timeout-is round (row timeout_width timeouts-left i) (counted-passes (timeout-kind round p high) f.counted) in
           record {
             quorum = timeout-quorate round high e;
             signed = λ j b. rw (highs-row timeouts-left i j) (rw (ExpiresIn, is) at (filled-signed m (ExpiresIn g) (timeout-kind round p high) p who f kept-timeouts.timeouts j b));
           }
 
-      pub good-timeout : (own : ℕ) → Good (timeoutTallied m own (quorumOf m) s round p (stakeOf m p) high).left
-      good-timeout own = rw (timeout-tallied-is m own (quorumOf m) s round p (stakeOf m p) high) (cases (timeoutAdded s.timeouts round p (stakeOf m p) (quorumOf m)) refl)
+      pub good-timeout : (own : ℕ) → Good (timeout_tallied m own (quorum_of m) s round p (stake_of m p) high).left
+      good-timeout own = rw (timeout-tallied-is m own (quorum_of m) s round p (stake_of m p) high) (cases (timeout_added s.timeouts round p (stake_of m p) (quorum_of m)) refl)
         where
-          cases : (a : Added) → timeoutAdded s.timeouts round p (stakeOf m p) (quorumOf m) ≡ a → Good (afterTimeout m own s round timeouts-left a).left
+          cases : (a : Added) → timeout_added s.timeouts round p (stake_of m p) (quorum_of m) ≡ a → Good (after_timeout m own s round timeouts-left a).left
           cases NoRoom e = good-quiet k
           cases Used e = good-quiet k
           cases More e = good-quiet kept-timeouts
-          cases (Full i names) e = good-timed-out own kept-timeouts round names (highsAt timeouts-left i) (timeout-closes e)
+          cases (Full i names) e = good-timed-out own kept-timeouts round names (highs_at timeouts-left i) (timeout-closes e)

@@ -18,66 +18,66 @@ use native.Mathlib.Omega.{arith}
 use lib.ListN.{length}
 use Rattle.trace.specs.declared.events.Block.{Block}
 use Rattle.outputs.specs.Records.{vote, timeout}
-use Rattle.aggregator.specs.Tally.{voteWidth, timeoutWidth}
-use Rattle.aggregator.specs.Tallies.{voteTallies, timeoutTallies, Light}
+use Rattle.aggregator.specs.Tally.{vote_width, timeout_width}
+use Rattle.aggregator.specs.Tallies.{vote_tallies, timeout_tallies, Light}
 use Rattle.synchronizer.specs.declared.table.Slot.{Slot}
-use Rattle.synchronizer.specs.Table.{stored, ancestorsOf}
+use Rattle.synchronizer.specs.Table.{stored, ancestors_of}
 use Rattle.synchronizer.specs.Walk.{delivers, walk_of}
-use Rattle.synchronizer.specs.Settle.{commitRec}
+use Rattle.synchronizer.specs.Settle.{commit_rec}
 use Rattle.moves.specs.declared.state.Core.{Core}
-use Rattle.moves.specs.State.{State, withCore}
+use Rattle.moves.specs.State.{State, with_core}
 use Rattle.moves.specs.Outcome.{Step, after}
 use Rattle.moves.proofs.MoveLaws.{Keeps}
 use Rattle.handlers.specs.Votes.{extends, voted}
-use Rattle.replica.specs.Blocks.{slotFor}
-use Rattle.runs.specs.Runs.{signedIn, deliveredIn}
+use Rattle.replica.specs.Blocks.{slot_for}
+use Rattle.runs.specs.Runs.{signed_in, delivered_in}
 use Rattle.runs.proofs.Marks.{later}
-use Rattle.runs.proofs.Plain.{roundIn, highIn, Plain}
+use Rattle.runs.proofs.Plain.{round_in, high_in, Plain}
 
-abbrev pub votedIn : Core → ℕ
-votedIn c = c.last_voted_round.0
+abbrev pub voted_in : Core → ℕ
+voted_in c = c.last_voted_round.0
 
-abbrev pub committedIn : Core → ℕ
-committedIn c = c.last_committed_round.0
+abbrev pub committed_in : Core → ℕ
+committed_in c = c.last_committed_round.0
 
 -- ---- what a step leaves
 
 pub record Stays (total : ℕ) (s s' : State) : Type 0 where
   pub votes : length s'.votes ≡ length s.votes
   pub timeouts : length s'.timeouts ≡ length s.timeouts
-  pub votes-light : Light voteWidth voteTallies s.votes total → Light voteWidth voteTallies s'.votes total
-  pub timeouts-light : Light timeoutWidth timeoutTallies s.timeouts total → Light timeoutWidth timeoutTallies s'.timeouts total
-  pub round : roundIn s.core ≤ roundIn s'.core
-  pub high : highIn s.core ≤ highIn s'.core
+  pub votes-light : Light vote_width vote_tallies s.votes total → Light vote_width vote_tallies s'.votes total
+  pub timeouts-light : Light timeout_width timeout_tallies s.timeouts total → Light timeout_width timeout_tallies s'.timeouts total
+  pub round : round_in s.core ≤ round_in s'.core
+  pub high : high_in s.core ≤ high_in s'.core
 
 -- `at` is the part by value when the vote is cast
 pub record Ballot (b : Block) (q : ℕ) (c : Core) (a : Step) : Type 0 where
   pub to : ℕ
-  pub is : signedIn a.outs ≡ vote to b.digest b.round.0 ∷ []
-  pub newer : votedIn c < b.round.0
+  pub is : signed_in a.outs ≡ vote to b.digest b.round.0 ∷ []
+  pub newer : voted_in c < b.round.0
   pub rule : extends b ≡ true
-  pub now : votedIn a.state.core ≡ b.round.0
+  pub now : voted_in a.state.core ≡ b.round.0
   pub at : Core
-  pub current : roundIn at ≡ b.round.0
-  pub passed : roundIn c ≤ roundIn at
-  pub before : highIn c ≤ highIn at
-  pub after : highIn at ≤ highIn a.state.core
-  pub below : highIn c < roundIn c → highIn at < roundIn at
-  pub took : q ≤ highIn at
+  pub current : round_in at ≡ b.round.0
+  pub passed : round_in c ≤ round_in at
+  pub before : high_in c ≤ high_in at
+  pub after : high_in at ≤ high_in a.state.core
+  pub below : high_in c < round_in c → high_in at < round_in at
+  pub took : q ≤ high_in at
 
 -- nothing; one VOTE; one TIMEOUT, of the round and with the high QC that the event found
 pub data Signs (b : Block) (q : ℕ) (c : Core) (a : Step) : Type 0 where
-  nothing : signedIn a.outs ≡ [] → votedIn a.state.core ≡ votedIn c → Signs b q c a
+  nothing : signed_in a.outs ≡ [] → voted_in a.state.core ≡ voted_in c → Signs b q c a
   ballot : Ballot b q c a → Signs b q c a
-  expiry : signedIn a.outs ≡ timeout (roundIn c) c.high_qc ∷ [] → votedIn a.state.core ≡ later (votedIn c) (roundIn c) → Signs b q c a
+  expiry : signed_in a.outs ≡ timeout (round_in c) c.high_qc ∷ [] → voted_in a.state.core ≡ later (voted_in c) (round_in c) → Signs b q c a
 
 -- the block's parent b1 and grandparent b0 were in the table, in consecutive rounds, and b0 is delivered with the walk under it
 pub record Commits (b : Slot) (t t' : List Slot) (low : ℕ) (blocks : List Slot) (high : ℕ) : Type 0 where
-  pub found : (ancestorsOf t b).answer ≡ 0
-  pub next : (ancestorsOf t b).b0.round.0 + 1 ≡ (ancestorsOf t b).b1.round.0
-  pub newer : low < (ancestorsOf t b).b0.round.0
-  pub walk : walk_of t' (ancestorsOf t b).b0 low ≡ delivers blocks
-  pub last : high ≡ (ancestorsOf t b).b0.round.0
+  pub found : (ancestors_of t b).answer ≡ 0
+  pub next : (ancestors_of t b).b0.round.0 + 1 ≡ (ancestors_of t b).b1.round.0
+  pub newer : low < (ancestors_of t b).b0.round.0
+  pub walk : walk_of t' (ancestors_of t b).b0 low ≡ delivers blocks
+  pub last : high ≡ (ancestors_of t b).b0.round.0
 
 pub data Deliveries (b : Slot) (t t' : List Slot) (low : ℕ) (blocks : List Slot) (high : ℕ) : Type 0 where
   none : blocks ≡ [] → high ≡ low → Deliveries b t t' low blocks high
@@ -85,20 +85,20 @@ pub data Deliveries (b : Slot) (t t' : List Slot) (low : ℕ) (blocks : List Slo
 
 pub record Delivers (b : Slot) (t t' : List Slot) (low : ℕ) (a : Step) : Type 0 where
   pub blocks : List Slot
-  pub are : deliveredIn a.outs ≡ map commitRec blocks
-  pub by : Deliveries b t t' low blocks (committedIn a.state.core)
+  pub are : delivered_in a.outs ≡ map commit_rec blocks
+  pub by : Deliveries b t t' low blocks (committed_in a.state.core)
 
 -- a block is stored only where its parent and its grandparent are
 abbrev pub Stores : Slot → List Slot → List Slot → Type 0
-Stores b t t' = (t' ≡ t) ⊎ ((t' ≡ stored t b) × ((ancestorsOf t b).answer ≡ 0))
+Stores b t t' = (t' ≡ t) ⊎ ((t' ≡ stored t b) × ((ancestors_of t b).answer ≡ 0))
 
 pub record Lawful (total : ℕ) (b : Block) (q : ℕ) (t t' : List Slot) (s : State) (a : Step) : Type 0 where
   pub stays : Stays total s a.state
   pub signs : Signs b q s.core a
-  pub delivers : Delivers (slotFor b) t t' (committedIn s.core) a
-  pub stores : Stores (slotFor b) t t'
-  pub below : highIn s.core < roundIn s.core → highIn a.state.core < roundIn a.state.core
-  pub within : votedIn s.core ≤ roundIn s.core → votedIn a.state.core ≤ roundIn a.state.core
+  pub delivers : Delivers (slot_for b) t t' (committed_in s.core) a
+  pub stores : Stores (slot_for b) t t'
+  pub below : high_in s.core < round_in s.core → high_in a.state.core < round_in a.state.core
+  pub within : voted_in s.core ≤ round_in s.core → voted_in a.state.core ≤ round_in a.state.core
 
 -- ---- parts
 
@@ -118,7 +118,7 @@ stays_then a b =
     }
 
 -- a part by value with the same round and high QC
-pub stays-core : (total : ℕ) (s : State) (c : Core) → c.round ≡ s.core.round → c.high_qc ≡ s.core.high_qc → Stays total s (withCore s c)
+pub stays-core : (total : ℕ) (s : State) (c : Core) → c.round ≡ s.core.round → c.high_qc ≡ s.core.high_qc → Stays total s (with_core s c)
 stays-core total s c e f =
     record {
       votes = refl;
@@ -129,7 +129,7 @@ stays-core total s c e f =
       high = rw f (le_refl _);
     }
 
-pub delivers-none : (b : Slot) (t t' : List Slot) (low : ℕ) (a : Step) → deliveredIn a.outs ≡ [] → committedIn a.state.core ≡ low → Delivers b t t' low a
+pub delivers-none : (b : Slot) (t t' : List Slot) (low : ℕ) (a : Step) → delivered_in a.outs ≡ [] → committed_in a.state.core ≡ low → Delivers b t t' low a
 delivers-none b t t' low a e f = record { blocks = []; are = e; by = none refl f }
 
 -- what votes for nothing and commits nothing
@@ -138,8 +138,8 @@ lawful-plain {total} {s} {a} b q t k p =
     record {
       stays = stays-keeps k;
       signs = nothing p.silent.signs (ap (λ x. x.0) k.voted);
-      delivers = delivers-none (slotFor b) t t _ a p.silent.delivers (ap (λ x. x.0) k.committed);
+      delivers = delivers-none (slot_for b) t t _ a p.silent.delivers (ap (λ x. x.0) k.committed);
       stores = inl refl;
       below = p.below;
-      within = λ h. let e : votedIn a.state.core ≡ votedIn s.core = ap (λ x. x.0) k.voted in omega (arith, k.round);
+      within = λ h. let e : voted_in a.state.core ≡ voted_in s.core = ap (λ x. x.0) k.voted in omega (arith, k.round);
     }

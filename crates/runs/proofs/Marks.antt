@@ -35,10 +35,10 @@ next (above n) a = n
 next (reach t) a = later a t
 
 -- the round of a record that has one
-abbrev pub levelOf : Mark → ℕ
-levelOf skip = 0
-levelOf (above n) = n
-levelOf (reach t) = t
+abbrev pub level_of : Mark → ℕ
+level_of skip = 0
+level_of (above n) = n
+level_of (reach t) = t
 
 unfoldable pub Marked : (Rec → Mark) → ℕ → List Rec → ℕ → Type 0
 Marked f a [] b = a ≡ b
@@ -57,7 +57,7 @@ next_le skip a h = omega arith
 next_le (above n) a h = omega arith
 next_le (reach t) a h = (later-le a t).0
 
-next-round : (m : Mark) (a : ℕ) → levelOf m ≤ next m a
+next-round : (m : Mark) (a : ℕ) → level_of m ≤ next m a
 next-round skip a = omega arith
 next-round (above n) a = omega arith
 next-round (reach t) a = (later-le a t).1
@@ -81,12 +81,12 @@ module _ (f : Rec → Mark) where
   marked-above a b n [] ys y e h = holds-above (f y) a n e h.0
   marked-above a b n (x ∷ xs) ys y e h = omega (arith, next_le (f x) a h.0, marked-above (next (f x) a) b n xs ys y e h.1)
 
-  pub marked-behind : (a b n : ℕ) (xs ys zs : List Rec) (x y : Rec) → f y ≡ above n → Marked f a (xs ++ (x ∷ ys ++ (y ∷ zs))) b → levelOf (f x) < n
+  pub marked-behind : (a b n : ℕ) (xs ys zs : List Rec) (x y : Rec) → f y ≡ above n → Marked f a (xs ++ (x ∷ ys ++ (y ∷ zs))) b → level_of (f x) < n
   unfolding Marked
   marked-behind a b n [] ys zs x y e h = omega (arith, next-round (f x) a, marked-above (next (f x) a) b n ys zs y e h.1)
   marked-behind a b n (w ∷ xs) ys zs x y e h = marked-behind (next (f w) a) b n xs ys zs x y e h.1
 
-  pub marked-within : (a b : ℕ) (xs ys : List Rec) (x : Rec) → Marked f a (xs ++ (x ∷ ys)) b → levelOf (f x) ≤ b
+  pub marked-within : (a b : ℕ) (xs ys : List Rec) (x : Rec) → Marked f a (xs ++ (x ∷ ys)) b → level_of (f x) ≤ b
   unfolding Marked
   marked-within a b [] ys x h = omega (arith, next-round (f x) a, marked-le (next (f x) a) b ys h.1)
   marked-within a b (w ∷ xs) ys x h = marked-within (next (f w) a) b xs ys x h.1

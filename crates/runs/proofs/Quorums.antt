@@ -9,7 +9,7 @@ use mathlib.Core.Path.{◌≡◌, refl, ap}
 use mathlib.Core.List.{List}
 use native.Mathlib.Omega.{arith}
 use Rattle.certificates.specs.declared.numbers.Hash.{Hash}
-use Rattle.certificates.specs.Signers.{isIn}
+use Rattle.certificates.specs.Signers.{is_in}
 use Rattle.certificates.proofs.Overlap.{quorums-common}
 use Rattle.runs.specs.Lives.{Life, Party, Careful, Sitting, Quorum, Voted, TimedOut, Certified, Ended, Trusted}
 
@@ -51,7 +51,7 @@ module _ (l : Life) (k : Careful l) where
       (order i j)
 
 module _ (P : Party) (T : Trusted P) where
-  pub shared : (v w : List ℕ) → Quorum P v → Quorum P w → (p : ℕ) × (isIn v p ≡ 1) × (isIn w p ≡ 1) × Sitting P p
+  pub shared : (v w : List ℕ) → Quorum P v → Quorum P w → (p : ℕ) × (is_in v p ≡ 1) × (is_in w p ≡ 1) × Sitting P p
   shared v w a b =
       let t = quorums-common P.stakes v w a.enough b.enough P.breakers T.few in
       (t.0, t.1, t.2, record { member = a.members t.0 t.1; obeys = t.3 })

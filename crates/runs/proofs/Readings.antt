@@ -9,12 +9,12 @@ use mathlib.Core.Bool.{Bool, true, false}
 use mathlib.Core.List.{List, [], ◌∷◌}
 use mathlib.Core.Path.{◌≡◌, ap}
 use lib.ListN.{get_or}
-use Rattle.certificates.specs.Error.{ancestorAbsent, roundNotBelow}
+use Rattle.certificates.specs.Error.{ancestor_absent, round_not_below}
 use Rattle.synchronizer.specs.declared.table.Slot.{Slot}
 use Rattle.synchronizer.specs.Walk.{Walk, refused, delivers, walk_of}
 use Rattle.synchronizer.proofs.Cases.{block, walk-readings}
-use Rattle.handlers.specs.Votes.{mayVote}
-use Rattle.handlers.proofs.Cases.{coreAfter, blockOn, votes-by-rule}
+use Rattle.handlers.specs.Votes.{may_vote}
+use Rattle.handlers.proofs.Cases.{core_after, block_on, votes-by-rule}
 
 -- `walks t b last w`: from b in the table t, where `last` is the last committed round. `votes last qc v`: "Block round 5, TC round 4 with high rounds
 -- 1,2,3" and a QC of round qc, for a replica that voted last in the round `last`.
@@ -24,7 +24,7 @@ pub data Reading : Type 0 where
 
 abbrev pub Met : Reading → Type 0
 Met (walks t b last w) = walk_of t b last ≡ w
-Met (votes last qc v) = mayVote (coreAfter last) (blockOn qc) ≡ v
+Met (votes last qc v) = may_vote (core_after last) (block_on qc) ≡ v
 
 abbrev pub AllMet : List Reading → Type 0
 AllMet [] = Unit {0}
@@ -42,8 +42,8 @@ table =
     -- beside 01's: a chain with gaps; a first commit above round 1; an absent parent; a parent not below its child; the QC rule; a round voted in
     ∷ walks (block 5 3 ∷ block 3 1 ∷ block 1 0 ∷ []) (block 5 3) 0 (delivers (block 1 0 ∷ block 3 1 ∷ block 5 3 ∷ []))
     ∷ walks (block 2 0 ∷ []) (block 2 0) 0 (delivers (block 2 0 ∷ []))
-    ∷ walks (block 1 0 ∷ block 4 3 ∷ []) (block 4 3) 0 (refused ancestorAbsent)
-    ∷ walks (block 3 4 ∷ block 4 3 ∷ []) (block 4 3) 0 (refused roundNotBelow)
+    ∷ walks (block 1 0 ∷ block 4 3 ∷ []) (block 4 3) 0 (refused ancestor_absent)
+    ∷ walks (block 3 4 ∷ block 4 3 ∷ []) (block 4 3) 0 (refused round_not_below)
     ∷ votes 4 4 true
     ∷ votes 5 3 false
     ∷ []

@@ -11,8 +11,8 @@ use native.Mathlib.Nat.{le_refl}
 use native.Mathlib.Omega.{arith}
 use lib.ListN.{length-replicate}
 use Rattle.certificates.specs.declared.numbers.Stake.{Stake}
-use Rattle.aggregator.specs.Tally.{voteWidth, timeoutWidth}
-use Rattle.aggregator.specs.Tallies.{voteTallies, timeoutTallies, votesLength, timeoutsLength}
+use Rattle.aggregator.specs.Tally.{vote_width, timeout_width}
+use Rattle.aggregator.specs.Tallies.{vote_tallies, timeout_tallies, votes_length, timeouts_length}
 use Rattle.aggregator.proofs.Laws.{zeros-light}
 use Rattle.synchronizer.specs.declared.table.Slot.{Slot}
 use Rattle.synchronizer.proofs.Lookups.{Has, cleared-has, Closed, closed-cleared}
@@ -28,10 +28,10 @@ emptied-stays : (w : World) (t : Stake) → Started w t → Stays t.0 w.state (e
 emptied-stays w t s =
     let k = (started-ready w.seat w.stakes w.state.votes w.state.timeouts t s).sound in
     record {
-      votes = length-replicate {A = ℕ} votesLength 0 ∙ sym k.long;
-      timeouts = length-replicate {A = ℕ} timeoutsLength 0 ∙ sym k.wide;
-      votes-light = λ h. zeros-light voteWidth voteTallies votesLength t.0 (omega arith);
-      timeouts-light = λ h. zeros-light timeoutWidth timeoutTallies timeoutsLength t.0 (omega arith);
+      votes = length-replicate {A = ℕ} votes_length 0 ∙ sym k.long;
+      timeouts = length-replicate {A = ℕ} timeouts_length 0 ∙ sym k.wide;
+      votes-light = λ h. zeros-light vote_width vote_tallies votes_length t.0 (omega arith);
+      timeouts-light = λ h. zeros-light timeout_width timeout_tallies timeouts_length t.0 (omega arith);
       round = le_refl _;
       high = le_refl _;
     }

@@ -14,19 +14,19 @@ use lib.Dec.{ltb}
 use lib.ListN.{length}
 use Rattle.certificates.specs.declared.numbers.Stake.{Stake}
 use Rattle.certificates.specs.declared.messages.QC.{QC}
-use Rattle.certificates.specs.Config.{membersMax}
+use Rattle.certificates.specs.Config.{members_max}
 use Rattle.trace.specs.declared.events.Kind.{Kind}
-use Rattle.trace.specs.Form.{form_of, anyAbove}
-use Rattle.trace.specs.Fields.{voteOf, timeoutOf, block_of}
-use Rattle.trace.specs.Layout.{blockQC, timeoutQC, tcBody, qcPart, tcPart, payloadOf}
+use Rattle.trace.specs.Form.{form_of, any_above}
+use Rattle.trace.specs.Fields.{vote_of, timeout_of, block_of}
+use Rattle.trace.specs.Layout.{block_qc, timeout_qc, tc_body, qc_part, tc_part, payload_of}
 use Rattle.trace.proofs.FieldLaws.{vote-verdict, timeout-verdict}
 use Rattle.trace.proofs.FormLaws.{formed}
-use Rattle.outputs.specs.Records.{Rec, make, makeWith}
+use Rattle.outputs.specs.Records.{Rec, make, make_with}
 use Rattle.aggregator.specs.Tally.{signers}
 use Rattle.replica.specs.Step.{World, committee, handled}
 use Rattle.replica.proofs.StartedLaws.{started-ready}
-use Rattle.runs.specs.Runs.{Event, stepOn, Written}
-use Rattle.runs.proofs.Steps.{Started, stepIn, Gives, formless, again, roomless, limited, gives, step_is}
+use Rattle.runs.specs.Runs.{Event, step_on, Written}
+use Rattle.runs.proofs.Steps.{Started, step_in, Gives, formless, again, roomless, limited, gives, step_is}
 use Rattle.runs.proofs.Tallied.{Quorate}
 use Rattle.runs.proofs.Kept.{Signatures, unknown, every-written, Kept, Writes, Good, good-quiet}
 use Rattle.runs.proofs.Handled.{SureQC, SureTC, Mine, good-handled-vote, good-handled-timeout, good-handled-tc, good-handled-tick, good-processed, good-proposed}
@@ -34,12 +34,12 @@ use Rattle.runs.proofs.Handled.{SureQC, SureTC, Mine, good-handled-vote, good-ha
 -- ---- true results
 
 pub record SureEvent (g : Signatures) (e : Event) : Type 0 where
-  pub vote : form_of e.bytes ≡ Kind.Vote → let v = voteOf e.bytes in v.verdict ≡ 1 → g.votes v.author.0 v.hash v.round.0
-  pub timeout : form_of e.bytes ≡ Kind.Timeout → let t = timeoutOf e.bytes in t.verdict ≡ 1 → g.expires t.author.0 t.round.0 t.qc_round.0
-  pub timeout-qc : form_of e.bytes ≡ Kind.Timeout → SureQC g (qcPart e.bytes timeoutQC)
-  pub tc : form_of e.bytes ≡ Kind.Tc → SureTC g (tcPart e.bytes tcBody)
-  pub block-qc : form_of e.bytes ≡ Kind.Propose → SureQC g (qcPart e.bytes blockQC)
-  pub block-tc : form_of e.bytes ≡ Kind.Propose → ((block_of e.bytes).tc ≡ 0 → ⊥) → SureTC g (tcPart e.bytes (block_of e.bytes).tc)
+  pub vote : form_of e.bytes ≡ Kind.Vote → let v = vote_of e.bytes in v.verdict ≡ 1 → g.votes v.author.0 v.hash v.round.0
+  pub timeout : form_of e.bytes ≡ Kind.Timeout → let t = timeout_of e.bytes in t.verdict ≡ 1 → g.expires t.author.0 t.round.0 t.qc_round.0
+  pub timeout-qc : form_of e.bytes ≡ Kind.Timeout → SureQC g (qc_part e.bytes timeout_qc)
+  pub tc : form_of e.bytes ≡ Kind.Tc → SureTC g (tc_part e.bytes tc_body)
+  pub block-qc : form_of e.bytes ≡ Kind.Propose → SureQC g (qc_part e.bytes block_qc)
+  pub block-tc : form_of e.bytes ≡ Kind.Propose → ((block_of e.bytes).tc ≡ 0 → ⊥) → SureTC g (tc_part e.bytes (block_of e.bytes).tc)
 
 -- a record without a form brings none
 pub sure-bad : (g : Signatures) (e : Event) → form_of e.bytes ≡ Kind.Bad → SureEvent g e
@@ -54,8 +54,8 @@ sure-bad g e z =
     }
 
 -- a mark of a record that has its form is 0 or 1
-small-mark : (x : ℕ) (xs : List ℕ) → anyAbove 1 (x ∷ xs) ≡ false → (x ≡ 0 → ⊥) → x ≡ 1
-unfolding anyAbove
+small-mark : (x : ℕ) (xs : List ℕ) → any_above 1 (x ∷ xs) ≡ false → (x ≡ 0 → ⊥) → x ≡ 1
+unfolding any_above
 small-mark x xs e n = cases (ltb 1 x) refl e
   where
     one : (y : ℕ) → y ≤ 1 → (y ≡ 0 → ⊥) → y ≡ 1
@@ -63,38 +63,38 @@ small-mark x xs e n = cases (ltb 1 x) refl e
     one (suc zero) l n = refl
     one (suc (suc y)) l n = absurd (omega arith)
 
-    cases : (b : Bool) → ltb 1 x ≡ b → cond b true (anyAbove 1 xs) ≡ false → x ≡ 1
+    cases : (b : Bool) → ltb 1 x ≡ b → cond b true (any_above 1 xs) ≡ false → x ≡ 1
     cases true f g = absurd (let z : ◌≡◌ {A = ℕ} 0 1 = cc in omega arith)
     cases false f g = one x (ltb-false 1 x f) n
 
-vote-yes : (r : List ℕ) → form_of r ≡ Kind.Vote → ((voteOf r).verdict ≡ 0 → ⊥) → (voteOf r).verdict ≡ 1
+vote-yes : (r : List ℕ) → form_of r ≡ Kind.Vote → ((vote_of r).verdict ≡ 0 → ⊥) → (vote_of r).verdict ≡ 1
 vote-yes r f n = vote-verdict r ∙ small-mark _ _ (formed r Kind.Vote refl f).marks (λ z. n (vote-verdict r ∙ z))
 
-timeout-yes : (r : List ℕ) → form_of r ≡ Kind.Timeout → ((timeoutOf r).verdict ≡ 0 → ⊥) → (timeoutOf r).verdict ≡ 1
+timeout-yes : (r : List ℕ) → form_of r ≡ Kind.Timeout → ((timeout_of r).verdict ≡ 0 → ⊥) → (timeout_of r).verdict ≡ 1
 timeout-yes r f n = timeout-verdict r ∙ small-mark _ _ (formed r Kind.Timeout refl f).marks (λ z. n (timeout-verdict r ∙ z))
 
 -- ---- every event
 
 module _ (w : World) (e : Event) (t : Stake) (s : Started w t) where
-  few : length (committee w) ≤ membersMax
+  few : length (committee w) ≤ members_max
   few = (started-ready w.seat w.stakes w.state.votes w.state.timeouts t s).sound.few
 
   module _ (g : Signatures) (k : Kept (committee w) g w.state) (sure : SureEvent g e) where
-    good-kind : (i : Kind) → form_of e.bytes ≡ i → Mine g w.seat.own.0 (handled w e.bytes i).outs → Good (committee w) g (stepIn (handled w e.bytes i))
+    good-kind : (i : Kind) → form_of e.bytes ≡ i → Mine g w.seat.own.0 (handled w e.bytes i).outs → Good (committee w) g (step_in (handled w e.bytes i))
     good-kind Kind.Bad f mine = good-quiet (committee w) g k
     good-kind Kind.Start f mine = good-quiet (committee w) g k
-    good-kind Kind.Propose f mine = good-proposed (committee w) g few w.seat.own.0 k w.table e.bytes (payloadOf e.bytes) (sure.block-qc f) mine
-    good-kind Kind.Vote f mine = good-handled-vote (committee w) g few w.seat.own.0 k (voteOf e.bytes) (λ n. sure.vote f (vote-yes e.bytes f n))
+    good-kind Kind.Propose f mine = good-proposed (committee w) g few w.seat.own.0 k w.table e.bytes (payload_of e.bytes) (sure.block-qc f) mine
+    good-kind Kind.Vote f mine = good-handled-vote (committee w) g few w.seat.own.0 k (vote_of e.bytes) (λ n. sure.vote f (vote-yes e.bytes f n))
     good-kind Kind.Timeout f mine = good-handled-timeout (committee w) g few w.seat.own.0 k e.bytes (λ n. sure.timeout f (timeout-yes e.bytes f n)) (sure.timeout-qc f)
     good-kind Kind.Tc f mine = good-handled-tc (committee w) g few w.seat.own.0 k e.bytes (sure.tc f)
     good-kind Kind.Loopback f mine = good-processed (committee w) g few w.seat.own.0 k w.table (block_of e.bytes) mine
     good-kind Kind.Tick f mine = good-handled-tick (committee w) g few w.seat.own.0 k mine
 
     -- L4, L8: the names in the tallies, in the high QC and in the certificates of MAKE are then those of members that signed.
-    pub good-step : Mine g w.seat.own.0 (stepOn w e).outs → Good (committee w) g (stepIn (stepOn w e))
+    pub good-step : Mine g w.seat.own.0 (step_on w e).outs → Good (committee w) g (step_in (step_on w e))
     good-step mine = cases (step_is w e t s)
       where
-        cases : Gives w e (form_of e.bytes) (stepOn w e) → Good (committee w) g (stepIn (stepOn w e))
+        cases : Gives w e (form_of e.bytes) (step_on w e) → Good (committee w) g (step_in (step_on w e))
         cases (formless x) = rw x (good-quiet (committee w) g k)
         cases (again x) = rw x (good-quiet (committee w) g k)
         cases (roomless x) = rw x (good-quiet (committee w) g k)
@@ -104,7 +104,7 @@ module _ (w : World) (e : Event) (t : Stake) (s : Started w t) where
   -- ---- whatever the results are
 
   module _ (k : Kept (committee w) unknown w.state) where
-    pub good-any : Good (committee w) unknown (stepIn (stepOn w e))
+    pub good-any : Good (committee w) unknown (step_in (step_on w e))
     good-any =
         good-step unknown k
         (record {
@@ -117,14 +117,14 @@ module _ (w : World) (e : Event) (t : Stake) (s : Started w t) where
         })
         (record { votes = λ to n h v. tt; expires = λ u q v. tt })
 
-    any-written : {a : Rec} → Written a (stepOn w e).outs → Writes (committee w) unknown (stepOn w e).world.state.core a
-    any-written = every-written (Writes (committee w) unknown (stepOn w e).world.state.core) good-any.outs
+    any-written : {a : Rec} → Written a (step_on w e).outs → Writes (committee w) unknown (step_on w e).world.state.core a
+    any-written = every-written (Writes (committee w) unknown (step_on w e).world.state.core) good-any.outs
 
     -- The QC of a MAKE is the high QC after the event,
-    pub make-high : {n : ℕ} {q : QC} → Written (make n q) (stepOn w e).outs → q ≡ (stepOn w e).world.state.core.high_qc
+    pub make-high : {n : ℕ} {q : QC} → Written (make n q) (step_on w e).outs → q ≡ (step_on w e).world.state.core.high_qc
     make-high v = (any-written v).makes
 
     -- and so with a TC, whose names are a quorum of members with stake.
-    pub make-with-high : {n of names : ℕ} {q : QC} {highs : List ℕ} → Written (makeWith n q of names highs) (stepOn w e).outs
-        → (q ≡ (stepOn w e).world.state.core.high_qc) × Quorate (committee w) (signers names)
+    pub make-with-high : {n of names : ℕ} {q : QC} {highs : List ℕ} → Written (make_with n q of names highs) (step_on w e).outs
+        → (q ≡ (step_on w e).world.state.core.high_qc) × Quorate (committee w) (signers names)
     make-with-high v = ((any-written v).makes.0, (any-written v).makes.1.quorum)

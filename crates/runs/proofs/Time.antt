@@ -14,22 +14,22 @@ use mathlib.Core.Logic.{◌⊎◌, inl, inr, ⊎_elim}
 use mathlib.Core.Path.{◌≡◌, refl, sym, ap, ◌∙◌}
 use native.Mathlib.Omega.{arith}
 use lib.ListN.{length}
-use Rattle.certificates.specs.Error.{badRecord}
+use Rattle.certificates.specs.Error.{bad_record}
 use Rattle.trace.specs.declared.events.Kind.{Kind}
 use Rattle.trace.specs.Form.{form_of}
 use Rattle.trace.proofs.Forms.{form-short}
 use Rattle.outputs.specs.Records.{Rec}
-use Rattle.replica.specs.Step.{World, Result, refusedIn}
+use Rattle.replica.specs.Step.{World, Result, refused_in}
 use Rattle.replica.proofs.Theorems.{bad-record}
-use Rattle.runs.specs.Runs.{stepOn, Written, only}
-use Rattle.runs.specs.Courses.{Stage, leaves, next, worldAfter, outsOf}
+use Rattle.runs.specs.Runs.{step_on, Written, only}
+use Rattle.runs.specs.Courses.{Stage, leaves, next, world_after, outs_of}
 use Rattle.runs.proofs.Lists.{written_none, only-append, written-front, written_behind, written_either}
 use Rattle.runs.specs.Lives.{gathered}
 
 abbrev pub idle : Stage
 idle = record { event = record { room = 0; bytes = [] }; cut = false }
 
-pub step-idle : (w : World) → stepOn w idle.event ≡ refusedIn badRecord w
+pub step-idle : (w : World) → step_on w idle.event ≡ refused_in bad_record w
 step-idle w = bad-record w 0 [] (sym (form-short [] (omega arith)))
 
 -- it is of no kind
@@ -47,7 +47,7 @@ ev (e ∷ es) zero = e
 ev (e ∷ es) (suc i) = ev es i
 
 abbrev pub gives : World → List Stage → ℕ → Result
-gives w es i = stepOn (at w es i) (ev es i).event
+gives w es i = step_on (at w es i) (ev es i).event
 
 pub at_zero : (w : World) (es : List Stage) → at w es 0 ≡ w
 unfolding at
@@ -60,8 +60,8 @@ at_next w [] i = sym (ap (λ (x : Result). x.world) (step-idle w))
 at_next w (e ∷ es) zero = at_zero (next w e) es
 at_next w (e ∷ es) (suc i) = at_next (next w e) es i
 
-pub at-past : (w : World) (past rest : List Stage) → at w (past ++ rest) (length past) ≡ worldAfter w past
-unfolding at worldAfter
+pub at-past : (w : World) (past rest : List Stage) → at w (past ++ rest) (length past) ≡ world_after w past
+unfolding at world_after
 at-past w [] rest = at_zero w rest
 at-past w (e ∷ past) rest = at-past (next w e) past rest
 
@@ -74,11 +74,11 @@ pub record Split (w : World) (es : List Stage) (i : ℕ) : Type 0 where
   pub past : List Stage
   pub rest : List Stage
   pub is : es ≡ past ++ (ev es i ∷ rest)
-  pub world : worldAfter w past ≡ at w es i
+  pub world : world_after w past ≡ at w es i
   pub long : length past ≡ i
 
 pub split : (w : World) (es : List Stage) (i : ℕ) → Split w es i ⊎ (ev es i ≡ idle)
-unfolding at ev worldAfter
+unfolding at ev world_after
 split w [] i = inr refl
 split w (e ∷ es) zero = inl (record { past = []; rest = es; is = refl; world = refl; long = refl })
 split w (e ∷ es) (suc i) =
@@ -96,21 +96,21 @@ gives-past w (e ∷ past) rest (suc i) l = gives-past (next w e) past rest i (om
 
 -- ---- what is written
 
-pub outs-at : {a : Rec} (w : World) (es : List Stage) (i : ℕ) → Written a (gives w es i).outs → Written a (outsOf w es)
-unfolding at ev outsOf
+pub outs-at : {a : Rec} (w : World) (es : List Stage) (i : ℕ) → Written a (gives w es i).outs → Written a (outs_of w es)
+unfolding at ev outs_of
 outs-at w [] i v = absurd (written_none (rw (step-idle w) at v))
-outs-at w (e ∷ es) zero v = written-front (outsOf (next w e) es) v
-outs-at w (e ∷ es) (suc i) v = written_behind (stepOn w e.event).outs (outs-at (next w e) es i v)
+outs-at w (e ∷ es) zero v = written-front (outs_of (next w e) es) v
+outs-at w (e ∷ es) (suc i) v = written_behind (step_on w e.event).outs (outs-at (next w e) es i v)
 
 -- what is written by then, a moment before then writes
-pub outs-find : {a : Rec} (w : World) (past rest : List Stage) → Written a (outsOf w past) → (i : ℕ) × (i < length past) × Written a (gives w (past ++ rest) i).outs
-unfolding at ev outsOf
+pub outs-find : {a : Rec} (w : World) (past rest : List Stage) → Written a (outs_of w past) → (i : ℕ) × (i < length past) × Written a (gives w (past ++ rest) i).outs
+unfolding at ev outs_of
 outs-find w [] rest v = absurd (written_none v)
 outs-find w (e ∷ past) rest v =
     ⊎_elim
     (λ u. (0, omega arith, u))
     (λ u. let f = outs-find (next w e) past rest u in (suc f.0, omega arith, f.2))
-    (written_either (stepOn w e.event).outs (outsOf (next w e) past) v)
+    (written_either (step_on w e.event).outs (outs_of (next w e) past) v)
 
 -- ---- all that is delivered
 
@@ -124,10 +124,10 @@ unfolding gathered
 gathered-same f g zero h = refl
 gathered-same f g (suc n) h = rw (gathered-same f g n (λ i l. h i (omega arith)), h n (omega arith)) refl
 
-pub gathered-all : (p : Rec → Bool) (w : World) (es : List Stage) → only p (outsOf w es) ≡ gathered (λ (i : ℕ). only p (gives w es i).outs) (length es)
-unfolding at ev outsOf only gathered
+pub gathered-all : (p : Rec → Bool) (w : World) (es : List Stage) → only p (outs_of w es) ≡ gathered (λ (i : ℕ). only p (gives w es i).outs) (length es)
+unfolding at ev outs_of only gathered
 gathered-all p w [] = refl
 gathered-all p w (e ∷ es) =
-    only-append p (stepOn w e.event).outs (outsOf (next w e) es)
-    ∙ ap (λ (l : List Rec). only p (stepOn w e.event).outs ++ l) (gathered-all p (next w e) es)
+    only-append p (step_on w e.event).outs (outs_of (next w e) es)
+    ∙ ap (λ (l : List Rec). only p (step_on w e.event).outs ++ l) (gathered-all p (next w e) es)
     ∙ sym (gathered-first (λ (i : ℕ). only p (gives w (e ∷ es) i).outs) (length es))

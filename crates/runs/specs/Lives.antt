@@ -9,8 +9,8 @@
 --     gathered xs n             what the first n moments give
 use Rattle.std.specs.Prelude.{ℕ, zero, suc, ◌*◌, ◌≤◌, ◌<◌, List, [], ◌++◌, ◌≡◌, length}
 use Rattle.certificates.specs.declared.numbers.Hash.{Hash}
-use Rattle.certificates.specs.Config.{sum, quorumOf}
-use Rattle.certificates.specs.Signers.{isIn, stakeIn}
+use Rattle.certificates.specs.Config.{sum, quorum_of}
+use Rattle.certificates.specs.Signers.{is_in, stake_in}
 use Rattle.outputs.specs.Records.{Rec}
 
 -- round, last voted, high QC's and last committed round before moment i; what it signs; what it delivers, oldest first, as digests and as COMMITs
@@ -45,11 +45,11 @@ gathered xs (suc n) = gathered xs n ++ xs n
 module _ (P : Party) where
   pub record Sitting (p : ℕ) : Type 0 where
     pub member : p < length P.stakes
-    pub obeys : isIn P.breakers p ≡ 0
+    pub obeys : is_in P.breakers p ≡ 0
 
   pub record Quorum (ws : List ℕ) : Type 0 where
-    pub enough : quorumOf P.stakes ≤ stakeIn P.stakes ws
-    pub members : (p : ℕ) → isIn ws p ≡ 1 → p < length P.stakes
+    pub enough : quorum_of P.stakes ≤ stake_in P.stakes ws
+    pub members : (p : ℕ) → is_in ws p ≡ 1 → p < length P.stakes
 
   abbrev pub Voted : ℕ → Hash → ℕ → Type 0
   Voted p d n = (i : ℕ) × ((P.life p).casts i d n)
@@ -60,13 +60,13 @@ module _ (P : Party) where
   pub record Certified (d : Hash) (n : ℕ) : Type 0 where
     pub signers : List ℕ
     pub quorum : Quorum signers
-    pub signed : (p : ℕ) → isIn signers p ≡ 1 → Sitting p → Voted p d n
+    pub signed : (p : ℕ) → is_in signers p ≡ 1 → Sitting p → Voted p d n
 
   pub record Ended (t q : ℕ) : Type 0 where
     pub signers : List ℕ
     pub quorum : Quorum signers
-    pub signed : (p : ℕ) → isIn signers p ≡ 1 → Sitting p → (h : ℕ) × (h ≤ q) × TimedOut p t h
+    pub signed : (p : ℕ) → is_in signers p ≡ 1 → Sitting p → (h : ℕ) × (h ≤ q) × TimedOut p t h
 
   pub record Trusted : Type 0 where
-    pub few : 3 * stakeIn P.stakes P.breakers ≤ sum P.stakes
+    pub few : 3 * stake_in P.stakes P.breakers ≤ sum P.stakes
     pub careful : (p : ℕ) → Sitting p → Careful (P.life p)

@@ -1,6 +1,6 @@
 -- The members of one committee: their courses, what each signed, and what the results of signature checks may be trusted for. And certificates laid out as bytes.
---     qcBytes q                   a QC laid out as a certificate whose result is yes
---     tcBytes round names highs   a TC likewise
+--     qc_bytes q                   a QC laid out as a certificate whose result is yes
+--     tc_bytes round names highs   a TC likewise
 --     GoodQC m q                  laid out so, it is accepted by the committee m inside a block or a timeout
 --     GoodTC m round names highs  .. and a TC
 --     Sends m a                   the certificates in the record a are good
@@ -16,12 +16,12 @@ use Rattle.certificates.specs.declared.numbers.Hash.{Hash}
 use Rattle.certificates.specs.declared.numbers.Signers.{Signers}
 use Rattle.certificates.specs.declared.messages.QC.{QC}
 use Rattle.certificates.specs.declared.messages.Checked.TheVariants.{Accepted}
-use Rattle.certificates.specs.Config.{sum, quorumOf}
-use Rattle.certificates.specs.Num.{num_at, hashAt}
-use Rattle.certificates.specs.Signers.{isIn, stakeIn, noSigners, member}
-use Rattle.certificates.specs.Messages.{qcForm, placesIn, tcCheck, equalsGenesis, embeddedCheck}
+use Rattle.certificates.specs.Config.{sum, quorum_of}
+use Rattle.certificates.specs.Num.{num_at, hash_at}
+use Rattle.certificates.specs.Signers.{is_in, stake_in, no_signers, member}
+use Rattle.certificates.specs.Messages.{qc_form, places_in, tc_check, equals_genesis, embedded_check}
 use Rattle.outputs.specs.Fields.{number, hash, bytes_of}
-use Rattle.outputs.specs.Records.{Rec, vote, timeout, tc, make, makeWith, commit, sync, cleanProposer, cleanMempool, timerReset, answer, places_of, entries}
+use Rattle.outputs.specs.Records.{Rec, vote, timeout, tc, make, make_with, commit, sync, clean_proposer, clean_mempool, timer_reset, answer, places_of, entries}
 use Rattle.replica.specs.Step.{committee}
 use Rattle.runs.specs.Runs.{Written}
 use Rattle.runs.specs.Courses.{Course, origin, outputs}
@@ -29,33 +29,33 @@ use Rattle.runs.specs.Courses.{Course, origin, outputs}
 -- ---- certificates as bytes
 
 -- "QC: hash 32, round 8, verdict 1, count 2, places 2 each."; "the number of signers is the count of ones in that word"
-unfoldable pub qcBytes : QC → List ℕ
-qcBytes q =
+unfoldable pub qc_bytes : QC → List ℕ
+qc_bytes q =
     bytes_of (hash q.hash ∷ number 8 q.round.0 ∷ number 1 1 ∷ number 2 (ones q.signers.0) ∷ map (number 2) (places_of q.signers.0))
 
 -- "TC: round 8, verdict 1, count 2, then place 2 and high round 8 each.": the body of the record 0x0103 with its result put in
-unfoldable pub tcBytes : ℕ → ℕ → List ℕ → List ℕ
-tcBytes round names highs = bytes_of (number 8 round ∷ number 1 1 ∷ number 2 (ones names) ∷ entries (places_of names) highs)
+unfoldable pub tc_bytes : ℕ → ℕ → List ℕ → List ℕ
+tc_bytes round names highs = bytes_of (number 8 round ∷ number 1 1 ∷ number 2 (ones names) ∷ entries (places_of names) highs)
 
 -- the QC of a block or a timeout is accepted by the committee m with the signers that it has; one that equals genesis has none
 abbrev pub GoodQC : List ℕ → QC → Type 0
-GoodQC m q = embeddedCheck m (quorumOf m) (qcBytes q) ≡ Accepted (cond (equalsGenesis (qcBytes q)) noSigners q.signers)
+GoodQC m q = embedded_check m (quorum_of m) (qc_bytes q) ≡ Accepted (cond (equals_genesis (qc_bytes q)) no_signers q.signers)
 
 -- a TC is accepted with the names that it has
 abbrev pub GoodTC : List ℕ → ℕ → ℕ → List ℕ → Type 0
-GoodTC m round names highs = tcCheck m (quorumOf m) (tcBytes round names highs) ≡ Accepted (record { 0 = names })
+GoodTC m round names highs = tc_check m (quorum_of m) (tc_bytes round names highs) ≡ Accepted (record { 0 = names })
 
 abbrev pub Sends : List ℕ → Rec → Type 0
 Sends m (vote to block round) = Unit {0}
 Sends m (timeout round high) = GoodQC m high
 Sends m (tc round names highs) = GoodTC m round names highs
 Sends m (make round high) = GoodQC m high
-Sends m (makeWith round high of names highs) = GoodQC m high × GoodTC m of names highs
+Sends m (make_with round high of names highs) = GoodQC m high × GoodTC m of names highs
 Sends m (commit digest round) = Unit {0}
 Sends m (sync parent block author) = Unit {0}
-Sends m (cleanProposer b0 b1 block) = Unit {0}
-Sends m (cleanMempool round) = Unit {0}
-Sends m timerReset = Unit {0}
+Sends m (clean_proposer b0 b1 block) = Unit {0}
+Sends m (clean_mempool round) = Unit {0}
+Sends m timer_reset = Unit {0}
 Sends m (answer n) = Unit {0}
 
 -- ---- the members
@@ -66,13 +66,13 @@ pub record Members : Type 0 where
   pub stakes : List ℕ
   pub breakers : List ℕ
   pub course : ℕ → Course
-  pub few : 3 * stakeIn stakes breakers ≤ sum stakes
-  pub same : (p : ℕ) → p < length stakes → isIn breakers p ≡ 0 → committee (origin (course p)) ≡ stakes
-  pub seated : (p : ℕ) → p < length stakes → isIn breakers p ≡ 0 → (origin (course p)).seat.own.0 ≡ p
+  pub few : 3 * stake_in stakes breakers ≤ sum stakes
+  pub same : (p : ℕ) → p < length stakes → is_in breakers p ≡ 0 → committee (origin (course p)) ≡ stakes
+  pub seated : (p : ℕ) → p < length stakes → is_in breakers p ≡ 0 → (origin (course p)).seat.own.0 ≡ p
 
 pub record Sits (M : Members) (p : ℕ) : Type 0 where
   pub member : p < length M.stakes
-  pub obeys : isIn M.breakers p ≡ 0
+  pub obeys : is_in M.breakers p ≡ 0
 
 -- a VOTE for this hash and round stands among what p wrote, whoever it goes to
 pub record Signed (M : Members) (p : ℕ) (h : Hash) (n : ℕ) : Type 0 where
@@ -87,14 +87,14 @@ pub record Expired (M : Members) (p t h : ℕ) : Type 0 where
 
 -- "signature results are true": whoever is named and obeys signed this hash and round
 abbrev pub TrueResult : Members → List ℕ → Type 0
-TrueResult M part = (p : ℕ) → Sits M p → member p (placesIn qcForm part) ≡ true → Signed M p (hashAt part 0) (num_at 8 part 32)
+TrueResult M part = (p : ℕ) → Sits M p → member p (places_in qc_form part) ≡ true → Signed M p (hash_at part 0) (num_at 8 part 32)
 
 -- "accepted vote certificates"
 pub record Certificate (M : Members) (h : Hash) (n : ℕ) : Type 0 where
   pub part : List ℕ
-  pub hashed : hashAt part 0 ≡ h
+  pub hashed : hash_at part 0 ≡ h
   pub round : num_at 8 part 32 ≡ n
-  pub other : equalsGenesis part ≡ false
+  pub other : equals_genesis part ≡ false
   pub signers : Signers
-  pub accepted : embeddedCheck M.stakes (quorumOf M.stakes) part ≡ Accepted signers
+  pub accepted : embedded_check M.stakes (quorum_of M.stakes) part ≡ Accepted signers
   pub result : TrueResult M part

@@ -37,7 +37,7 @@ pub(crate) fn open(name: &[u8], ending: &[u8]) -> i32 {
 }
 
 // The sum so far, and whether the file is at its end.
-#[derive(Drop)]
+#[derive(Clone, Copy)]
 pub(crate) struct Summing {
     pub sum: u32,
     pub done: bool,

@@ -1,7 +1,7 @@
 // The lines of a list, and how many of them were played and found equal.
 ghost use Rattle.std.specs.Prelude.{◌+◌, ◌≤◌, min, ◌≡◌, length};
 
-#[derive(Drop)]
+#[derive(Clone, Copy)]
 pub(crate) struct Tally {
     pub all: u64,
     pub equal: u64,

@@ -10,6 +10,8 @@
 // what this program must write (its file `stdout`) also says from which script the bytes were made.
 //
 // What a trace is answered with is in `serving`. What is here opens files and says what was found.
+#![tactic(auto)]
+
 mod files;
 mod list;
 mod packs;

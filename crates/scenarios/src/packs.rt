@@ -6,7 +6,7 @@ use serving::serve::serve_new;
 use serving::state::{DIFFERS, ENDED, PART};
 
 // What the front of a pack has: the length of a part, nothing, or bytes that are no length.
-#[derive(Drop)]
+#[derive(Clone, Copy)]
 pub(crate) struct Front {
     pub len: u64,
     pub none: bool,
@@ -38,7 +38,7 @@ const NOT_PLAYED: u8 = 3;
 const NOT_ALIKE: u8 = 4;
 
 // The traces found equal, how the pack stands, and the place where the trace after those differs.
-#[derive(Drop)]
+#[derive(Clone, Copy)]
 pub(crate) struct Packed {
     pub equal: u64,
     pub stands: u8,

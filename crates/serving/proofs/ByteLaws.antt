@@ -14,7 +14,7 @@ use Rattle.turns.specs.declared.turn.Run.{Run}
 use Rattle.turns.specs.declared.turn.Turned.{Turned}
 use Rattle.serving.specs.declared.state.Serving.{Serving}
 use Rattle.serving.specs.declared.state.Got.{Got}
-use Rattle.serving.specs.State.{gainedBy, broughtBy, judgedBy, notRead, write, part, ended, notWritten, differs, noRoom, endedBy, passed_by, filledBy, allowed, metBy, heldBy, furtherBy}
+use Rattle.serving.specs.State.{gained_by, brought_by, judged_by, not_read, write, part, ended, not_written, differs, no_room, ended_by, passed_by, filled_by, allowed, met_by, held_by, further_by}
 use Rattle.serving.specs.Bytes.{unread, waiting, Kept, Refills, Flushes, Delivers, Passes}
 use Rattle.serving.proofs.StateLaws.{allowed-part, rest-less, ended-at-least}
 
@@ -68,15 +68,15 @@ module _ (s : Serving) (before after : List ℕ) (same : take s.run.have after �
   kept-still : Kept s.run before s.run after
   kept-still = record { seat = refl; core = refl; front = rw still (take-length (unread s.run before)) }
 
-  kept-gained : (n : ℕ) → Kept s.run before (gainedBy s n).run after
+  kept-gained : (n : ℕ) → Kept s.run before (gained_by s n).run after
   kept-gained n =
       let few : length (unread s.run after) ≤ s.run.have + n - s.run.at = omega (arith, length-take (s.run.have - s.run.at) (drop s.run.at after)) in
       record { seat = refl; core = refl; front = rw (← still) (take-take _ (s.run.have + n - s.run.at) (drop s.run.at after) few ∙ take_own (s.run.have - s.run.at) (drop s.run.at after)) }
 
-  refills-still : (w : ℕ) → Refills s before (endedBy s w) after
+  refills-still : (w : ℕ) → Refills s before (ended_by s w) after
   refills-still w = record { turns = omega arith; mode = refl; kept = kept-still; limit = λ _. refl }
 
-  refills-gained : (n : ℕ) → s.run.at ≤ s.run.have → (s.mode ≡ part → n ≤ s.left) → Refills s before (gainedBy s n) after
+  refills-gained : (n : ℕ) → s.run.at ≤ s.run.have → (s.mode ≡ part → n ≤ s.left) → Refills s before (gained_by s n) after
   refills-gained n h k =
       record {
         turns = omega arith;
@@ -86,26 +86,26 @@ module _ (s : Serving) (before after : List ℕ) (same : take s.run.have after �
       }
 
   by_tests : (g : Got) (a b c : Bool) → s.run.at ≤ s.run.have → (s.mode ≡ part → g.n ≤ s.left)
-      → Refills s before (cond a (endedBy s notRead) (cond b (cond c (endedBy s notRead) (endedBy s ended)) (gainedBy s g.n))) after
-  by_tests g true b c h k = refills-still notRead
-  by_tests g false true true h k = refills-still notRead
+      → Refills s before (cond a (ended_by s not_read) (cond b (cond c (ended_by s not_read) (ended_by s ended)) (gained_by s g.n))) after
+  by_tests g true b c h k = refills-still not_read
+  by_tests g false true true h k = refills-still not_read
   by_tests g false true false h k = refills-still ended
   by_tests g false false c h k = refills-gained g.n h k
 
   -- read behind what is there
   pub refills-brought : (g : Got) (most room : ℕ) {r : Serving} → s.run.at ≤ s.run.have → most ≡ allowed s.mode s.left room → s.run.have + g.n ≤ s.run.have + most
-      → r ≡ broughtBy s g → Refills s before r after
-  unfolding broughtBy
+      → r ≡ brought_by s g → Refills s before r after
+  unfolding brought_by
   refills-brought g most room h a b e =
       rw e (by_tests g g.failed (eqb g.n 0) (eqb s.mode part) h (λ p. let l : allowed s.mode s.left room ≤ s.left = allowed-part _ _ _ p in omega arith))
 
 module _ (s : Serving) (before : List ℕ) where
-  pub refills_none : (w : ℕ) {r : Serving} → r ≡ endedBy s w → Refills s before r before
+  pub refills_none : (w : ℕ) {r : Serving} → r ≡ ended_by s w → Refills s before r before
   refills_none w e = rw e record { turns = omega arith; mode = refl; kept = kept_same s.run before; limit = λ _. refl }
 
   -- moved to the front
   pub refills-front : (after : List ℕ) (n : ℕ) {r : Serving} → s.run.at ≤ s.run.have → s.run.have ≤ length before → n ≡ s.run.have - s.run.at
-      → take n after ≡ take n (drop s.run.at before) → r ≡ filledBy s n → Refills s before r after
+      → take n after ≡ take n (drop s.run.at before) → r ≡ filled_by s n → Refills s before r after
   refills-front after n h k l moved e =
       let all : n - 0 ≡ n = omega arith in
       rw e record {
@@ -137,7 +137,7 @@ module _ (s : Serving) (t : Turned) {u : Serving} (e : u ≡ passed_by s t) wher
     pub passes-delivered : Passes (passed_by s t) a v a
     passes-delivered = passes_on record { turns = p.turns; kept = same-run a p.run }
 
-    pub passes-ended : (w : ℕ) {r : Serving} → r ≡ endedBy v w → Passes (passed_by s t) a r a
+    pub passes-ended : (w : ℕ) {r : Serving} → r ≡ ended_by v w → Passes (passed_by s t) a r a
     passes-ended w f = passes_on (rw f record { turns = omega arith; kept = same-run a p.run })
 
 -- ---- what waits
@@ -145,13 +145,13 @@ module _ (s : Serving) where
   pub flushes-none : s.held ≡ 0 → Flushes s s
   flushes-none h = record { turns = omega arith; run = refl; mode = refl; gone = λ _. h }
 
-  pub flushes-room : {r : Serving} → r ≡ endedBy s noRoom → Flushes s r
-  flushes-room e = rw e record { turns = omega arith; run = refl; mode = refl; gone = λ l. absurd (omega (arith, ended-at-least s noRoom)) }
+  pub flushes-room : {r : Serving} → r ≡ ended_by s no_room → Flushes s r
+  flushes-room e = rw e record { turns = omega arith; run = refl; mode = refl; gone = λ l. absurd (omega (arith, ended-at-least s no_room)) }
 
-  pub flushes-written : {u : Serving} → u ≡ heldBy s 0 → Flushes s u
+  pub flushes-written : {u : Serving} → u ≡ held_by s 0 → Flushes s u
   flushes-written e = rw e record { turns = omega arith; run = refl; mode = refl; gone = λ _. refl }
 
-  pub flushes-failed : {u r : Serving} → u ≡ heldBy s 0 → r ≡ endedBy u notWritten → Flushes s r
+  pub flushes-failed : {u r : Serving} → u ≡ held_by s 0 → r ≡ ended_by u not_written → Flushes s r
   flushes-failed e f = rw (f, e) record { turns = omega arith; run = refl; mode = refl; gone = λ _. refl }
 
 module _ (s : Serving) (out before : List ℕ) (n : ℕ) where
@@ -159,11 +159,11 @@ module _ (s : Serving) (out before : List ℕ) (n : ℕ) where
   delivers-none : {r : Serving} {after : List ℕ} → r.turns ≤ s.turns → r.run ≡ s.run → ended < r.why → Delivers s out before n r after
   delivers-none h e l = record { turns = h; run = e; waits = λ _ m. absurd (omega arith); expected = λ _ m. absurd (omega arith) }
 
-  pub delivers-room : {r : Serving} {after : List ℕ} → r ≡ endedBy s noRoom → Delivers s out before n r after
-  delivers-room e = rw e (delivers-none (omega arith) refl (omega (arith, ended-at-least s noRoom)))
+  pub delivers-room : {r : Serving} {after : List ℕ} → r ≡ ended_by s no_room → Delivers s out before n r after
+  delivers-room e = rw e (delivers-none (omega arith) refl (omega (arith, ended-at-least s no_room)))
 
   pub delivers-behind : {u r : Serving} {after : List ℕ} → s.held ≤ length before → n ≤ length before - s.held → n ≤ length out → s.mode ≡ write
-      → after ≡ paste before s.held out n → u ≡ heldBy s (s.held + n) → r ≡ furtherBy u n → Delivers s out before n r after
+      → after ≡ paste before s.held out n → u ≡ held_by s (s.held + n) → r ≡ further_by u n → Delivers s out before n r after
   delivers-behind h k l m p e f =
       let fit : s.held + n ≤ length before = omega arith in
       let long : length (take s.held before ++ take n out) ≡ s.held + n = rw (length-append, length-take-le s.held before h, length-take-le n out l) in
@@ -178,11 +178,11 @@ module _ (s : Serving) (out before : List ℕ) (n : ℕ) where
     pub delivers-failed : {after : List ℕ} → ended < u.why → Delivers s out before n u after
     delivers-failed l = delivers-none done.turns done.run l
 
-    pub delivers-small : {r : Serving} {after : List ℕ} → r ≡ endedBy u noRoom → Delivers s out before n r after
-    delivers-small e = rw e (delivers-none (omega arith) done.run (omega (arith, ended-at-least u noRoom)))
+    pub delivers-small : {r : Serving} {after : List ℕ} → r ≡ ended_by u no_room → Delivers s out before n r after
+    delivers-small e = rw e (delivers-none (omega arith) done.run (omega (arith, ended-at-least u no_room)))
 
     pub delivers-alone : {v r : Serving} {after : List ℕ} → s.held ≤ length before → length before - s.held < n → n ≤ length out → s.mode ≡ write
-        → after ≡ paste before 0 out n → v ≡ heldBy u n → r ≡ furtherBy v n → Delivers s out before n r after
+        → after ≡ paste before 0 out n → v ≡ held_by u n → r ≡ further_by v n → Delivers s out before n r after
     delivers-alone h k l m p e f =
         let over : length before < s.held + n = omega arith in
         rw (f, e, p) record {
@@ -193,14 +193,14 @@ module _ (s : Serving) (out before : List ℕ) (n : ℕ) where
         }
 
   -- ---- what is expected
-  pub delivers-judged : (most got same : ℕ) {r : Serving} {after : List ℕ} → (s.mode ≡ write → ⊥) → most ≤ n → got ≤ most → Alike out after got same → r ≡ judgedBy s got same n → Delivers s out before n r after
-  unfolding judgedBy
+  pub delivers-judged : (most got same : ℕ) {r : Serving} {after : List ℕ} → (s.mode ≡ write → ⊥) → most ≤ n → got ≤ most → Alike out after got same → r ≡ judged_by s got same n → Delivers s out before n r after
+  unfolding judged_by
   delivers-judged most got same {r} {after} m a b p e = rw e (by-test (ltb same n) refl)
     where
       u : Serving
-      u = furtherBy (metBy s got) same
+      u = further_by (met_by s got) same
 
-      by-test : (t : Bool) → t ≡ ltb same n → Delivers s out before n (cond t (endedBy u differs) u) after
+      by-test : (t : Bool) → t ≡ ltb same n → Delivers s out before n (cond t (ended_by u differs) u) after
       by-test true f = delivers-none (omega arith) refl (omega (arith, ended-at-least u differs))
       by-test false f =
           let l : n ≤ same = ltb-false _ _ (sym f) in

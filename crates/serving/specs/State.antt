@@ -1,23 +1,23 @@
 -- A run by value (`Serving`), and what the functions of `state` make of it.
 --     write, file, part                   what is done with the output: the numbers of `mode`
---     going, ended, notRead, notWritten, differs, noRoom    why a run ended: the numbers of `why`
+--     going, ended, not_read, not_written, differs, no_room    why a run ended: the numbers of `why`
 --     slots                               the slots of the table
---     turnsMax                            the turns that a run may take
+--     turns_max                            the turns that a run may take
 --     idle                                a replica that was not started, and nothing read
 --     fresh_of i o m left due              a run at its beginning
 --     state_of s run left due held place turns why    s with the parts that change
---     endedBy s w                         the run is over; the larger number stands
+--     ended_by s w                         the run is over; the larger number stands
 --     passed_by s t                        a turn is over, and left t
 --     run_of g a h                         g with another unread part of the buffer
---     filledBy s n, gainedBy s n          n bytes stand unread at the front of the buffer; n more were read behind
---     broughtBy s g                       what a read makes of a run
+--     filled_by s n, gained_by s n          n bytes stand unread at the front of the buffer; n more were read behind
+--     brought_by s g                       what a read makes of a run
 --     allowed, rest_of mode limit n        of a PART no more than its limit; and its limit after n bytes
---     metBy s n                           n bytes of what is expected were read
---     heldBy s n, furtherBy s n           n bytes wait in the pack; the output is n bytes further on
---     judgedBy s got same n               of n bytes of output `same` are those expected, and `got` were read to see that
---     toldOf s                            what a program is told
+--     met_by s n                           n bytes of what is expected were read
+--     held_by s n, further_by s n           n bytes wait in the pack; the output is n bytes further on
+--     judged_by s got same n               of n bytes of output `same` are those expected, and `got` were read to see that
+--     told_of s                            what a program is told
 use Rattle.std.specs.Prelude.{ℕ, ◌+◌, ◌-◌, ◌^◌, cond, eqb, leb, ltb, ℤ}
-use Rattle.certificates.specs.Numbers.{zeroHash}
+use Rattle.certificates.specs.Numbers.{zero_hash}
 use Rattle.turns.specs.declared.turn.Run.{Run}
 use Rattle.turns.specs.declared.turn.Turned.{Turned}
 use Rattle.serving.specs.declared.state.Serving.{Serving}
@@ -39,24 +39,24 @@ going = 0
 abbrev pub ended : ℕ
 ended = 1
 
-abbrev pub notRead : ℕ
-notRead = 2
+abbrev pub not_read : ℕ
+not_read = 2
 
-abbrev pub notWritten : ℕ
-notWritten = 3
+abbrev pub not_written : ℕ
+not_written = 3
 
 abbrev pub differs : ℕ
 differs = 4
 
-abbrev pub noRoom : ℕ
-noRoom = 5
+abbrev pub no_room : ℕ
+no_room = 5
 
 -- "with a 256-slot table"
 abbrev pub slots : ℕ
 slots = 256
 
-abbrev pub turnsMax : ℕ
-turnsMax = 2 ^ 64 - 1
+abbrev pub turns_max : ℕ
+turns_max = 2 ^ 64 - 1
 
 abbrev pub idle : Run
 idle =
@@ -67,7 +67,7 @@ idle =
             round = record { 0 = 0 };
             last_voted_round = record { 0 = 0 };
             last_committed_round = record { 0 = 0 };
-            high_qc = record { hash = zeroHash; round = record { 0 = 0 }; signers = record { 0 = 0 } };
+            high_qc = record { hash = zero_hash; round = record { 0 = 0 }; signers = record { 0 = 0 } };
           };
       at = 0;
       have = 0;
@@ -75,7 +75,7 @@ idle =
 
 abbrev pub fresh_of : ℤ → ℤ → ℕ → ℕ → ℕ → Serving
 fresh_of i o m l d =
-    record { run = idle; input = i; output = o; mode = m; left = l; due = d; held = 0; place = 0; turns = turnsMax; why = going }
+    record { run = idle; input = i; output = o; mode = m; left = l; due = d; held = 0; place = 0; turns = turns_max; why = going }
 
 abbrev pub state_of : Serving → Run → ℕ → ℕ → ℕ → ℕ → ℕ → ℕ → Serving
 state_of s g l d h p n w =
@@ -85,14 +85,14 @@ state_of s g l d h p n w =
 abbrev pub run_of : Run → ℕ → ℕ → Run
 run_of g a h = record { seat = g.seat; core = g.core; at = a; have = h }
 
-abbrev pub endedBy : Serving → ℕ → Serving
-endedBy s w = state_of s s.run s.left s.due s.held s.place 0 (cond (ltb s.why w) w s.why)
+abbrev pub ended_by : Serving → ℕ → Serving
+ended_by s w = state_of s s.run s.left s.due s.held s.place 0 (cond (ltb s.why w) w s.why)
 
 abbrev pub passed_by : Serving → Turned → Serving
 passed_by s t = state_of s t.run s.left s.due s.held s.place (s.turns - 1) s.why
 
-abbrev pub filledBy : Serving → ℕ → Serving
-filledBy s n = state_of s (run_of s.run 0 n) s.left s.due s.held s.place s.turns s.why
+abbrev pub filled_by : Serving → ℕ → Serving
+filled_by s n = state_of s (run_of s.run 0 n) s.left s.due s.held s.place s.turns s.why
 
 unfoldable pub allowed : ℕ → ℕ → ℕ → ℕ
 allowed mode limit n = cond (eqb mode part) (cond (ltb limit n) limit n) n
@@ -100,27 +100,27 @@ allowed mode limit n = cond (eqb mode part) (cond (ltb limit n) limit n) n
 unfoldable pub rest_of : ℕ → ℕ → ℕ → ℕ
 rest_of mode limit n = cond (eqb mode part) (limit - n) limit
 
-abbrev pub gainedBy : Serving → ℕ → Serving
-gainedBy s n =
+abbrev pub gained_by : Serving → ℕ → Serving
+gained_by s n =
     state_of s (run_of s.run s.run.at (s.run.have + n)) (rest_of s.mode s.left n) s.due s.held s.place s.turns s.why
 
-unfoldable pub broughtBy : Serving → Got → Serving
-broughtBy s g =
-    cond g.failed (endedBy s notRead) (cond (eqb g.n 0) (cond (eqb s.mode part) (endedBy s notRead) (endedBy s ended)) (gainedBy s g.n))
+unfoldable pub brought_by : Serving → Got → Serving
+brought_by s g =
+    cond g.failed (ended_by s not_read) (cond (eqb g.n 0) (cond (eqb s.mode part) (ended_by s not_read) (ended_by s ended)) (gained_by s g.n))
 
-abbrev pub metBy : Serving → ℕ → Serving
-metBy s n = state_of s s.run s.left (rest_of s.mode s.due n) s.held s.place s.turns s.why
+abbrev pub met_by : Serving → ℕ → Serving
+met_by s n = state_of s s.run s.left (rest_of s.mode s.due n) s.held s.place s.turns s.why
 
-abbrev pub heldBy : Serving → ℕ → Serving
-heldBy s n = state_of s s.run s.left s.due n s.place s.turns s.why
+abbrev pub held_by : Serving → ℕ → Serving
+held_by s n = state_of s s.run s.left s.due n s.place s.turns s.why
 
 -- past 2^64 - 1 bytes the count stands still
-abbrev pub furtherBy : Serving → ℕ → Serving
-furtherBy s n =
-    state_of s s.run s.left s.due s.held (cond (leb (s.place + n) turnsMax) (s.place + n) s.place) s.turns s.why
+abbrev pub further_by : Serving → ℕ → Serving
+further_by s n =
+    state_of s s.run s.left s.due s.held (cond (leb (s.place + n) turns_max) (s.place + n) s.place) s.turns s.why
 
-unfoldable pub judgedBy : Serving → ℕ → ℕ → ℕ → Serving
-judgedBy s got same n = cond (ltb same n) (endedBy (furtherBy (metBy s got) same) differs) (furtherBy (metBy s got) same)
+unfoldable pub judged_by : Serving → ℕ → ℕ → ℕ → Serving
+judged_by s got same n = cond (ltb same n) (ended_by (further_by (met_by s got) same) differs) (further_by (met_by s got) same)
 
-abbrev pub toldOf : Serving → Served
-toldOf s = record { why = s.why; place = s.place }
+abbrev pub told_of : Serving → Served
+told_of s = record { why = s.why; place = s.place }

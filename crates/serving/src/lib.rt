@@ -3,6 +3,8 @@
 //
 // `state` is a run by value, `input` reads, `output` writes and compares, `serve` is the loop over
 // `turns::turn`, and the entry for a program.
+#![tactic(auto)]
+
 pub mod input;
 pub mod output;
 pub mod serve;

@@ -1,6 +1,6 @@
 // The loop over `turn`, and the entry for a program.
 ghost use Rattle.std.specs.Prelude.{◌≡◌, ◌+◌, ◌≤◌, length, replicate};
-ghost use Rattle.outputs.specs.Records.{answerSize};
+ghost use Rattle.outputs.specs.Records.{answer_size};
 ghost use Rattle.replica.specs.Started.{room_for};
 ghost use Rattle.synchronizer.specs.Table.{blank};
 ghost use Rattle.serving.specs.State.{passed_by, slots};
@@ -119,7 +119,7 @@ pub(crate) fn blank_table() -> [Slot; SLOTS]
 
 // Room for the most that an event over such a table writes, and its ANSWER.
 fn out_buffer() -> [u8; OUT_ROOM]
-    ensures { room_for slots + answerSize ≡ length result }
+    ensures { room_for slots + answer_size ≡ length result }
 {
     [0; OUT_ROOM]
 }

@@ -1,6 +1,6 @@
 // A run by value: what the replica keeps by value, where bytes come from and go to, and how far it is.
 ghost use Rattle.std.specs.Prelude.{◌≡◌, ◌+◌, ◌≤◌, ◌<◌, ◌^◌, ltb};
-ghost use Rattle.serving.specs.State.{idle as idleRun, fresh_of, endedBy, passed_by, filledBy, allowed as allowedOf, rest_of, gainedBy, broughtBy, metBy, heldBy, furtherBy, judgedBy, toldOf};
+ghost use Rattle.serving.specs.State.{idle as idle_run, fresh_of, ended_by, passed_by, filled_by, allowed as allowed_of, rest_of, gained_by, brought_by, met_by, held_by, further_by, judged_by, told_of};
 
 use certificates::messages::QC;
 use certificates::numbers::{Hash, Place, Round, Signers};
@@ -29,7 +29,7 @@ pub const DIFFERS: u8 = 4;
 
 pub const NO_ROOM: u8 = 5;
 
-#[derive(Drop)]
+#[derive(Clone, Copy)]
 pub struct Serving {
     pub run: Run,
     // The descriptors.
@@ -48,14 +48,14 @@ pub struct Serving {
 }
 
 // What a read brought, or that it failed.
-#[derive(Drop)]
+#[derive(Clone, Copy)]
 pub struct Got {
     pub failed: bool,
     pub n: usize,
 }
 
 // What a program is told of its run.
-#[derive(Drop)]
+#[derive(Clone, Copy)]
 pub struct Served {
     pub why: u8,
     pub place: u64,
@@ -63,7 +63,7 @@ pub struct Served {
 
 // A replica that was not started, at the front of an empty buffer.
 fn idle() -> Run
-    ensures { result ≡ idleRun }
+    ensures { result ≡ idle_run }
 {
     let seat = Seat {
         count: 0,
@@ -126,7 +126,7 @@ pub(crate) fn run_of(s: Serving) -> Run
 }
 
 pub(crate) fn told(s: Serving) -> Served
-    ensures { result ≡ toldOf s }
+    ensures { result ≡ told_of s }
 {
     Served {
         why: s.why,
@@ -136,7 +136,7 @@ pub(crate) fn told(s: Serving) -> Served
 
 // The run is over.
 pub(crate) fn ended(s: Serving, why: u8) -> Serving
-    ensures { result ≡ endedBy s why }
+    ensures { result ≡ ended_by s why }
 {
     let mut u = s;
     u.turns = 0;
@@ -163,7 +163,7 @@ pub(crate) fn passed(s: Serving, t: Turned) -> Serving
 
 // n bytes stand unread at the front of the buffer.
 pub(crate) fn filled(s: Serving, n: usize) -> Serving
-    ensures { result ≡ filledBy s n }
+    ensures { result ≡ filled_by s n }
 {
     let mut run = s.run;
     run.at = 0;
@@ -175,7 +175,7 @@ pub(crate) fn filled(s: Serving, n: usize) -> Serving
 
 // Of a PART no more bytes than its limit.
 pub(crate) fn allowed(mode: u8, limit: u64, n: usize) -> usize
-    ensures { (result ≡ allowedOf mode limit n) × (result ≤ n) }
+    ensures { (result ≡ allowed_of mode limit n) × (result ≤ n) }
 {
     if mode == PART {
         if limit < (n as u64) {
@@ -202,7 +202,7 @@ fn rest_of(mode: u8, limit: u64, n: usize) -> u64
 // n bytes of the input were read behind those that are there.
 fn gained(s: Serving, n: usize) -> Serving
     requires { s.run.have + n < 2 ^ 64 }
-    ensures { result ≡ gainedBy s n }
+    ensures { result ≡ gained_by s n }
 {
     let mut run = s.run;
     run.have = s.run.have + n;
@@ -216,7 +216,7 @@ fn gained(s: Serving, n: usize) -> Serving
 // the input is ENDED.
 pub(crate) fn brought(s: Serving, got: Got) -> Serving
     requires { s.run.have + got.n < 2 ^ 64 }
-    ensures { result ≡ broughtBy s got }
+    ensures { result ≡ brought_by s got }
 {
     if got.failed {
         return ended(s, NOT_READ);
@@ -232,7 +232,7 @@ pub(crate) fn brought(s: Serving, got: Got) -> Serving
 
 // n bytes of what is expected were read.
 pub(crate) fn met(s: Serving, n: usize) -> Serving
-    ensures { result ≡ metBy s n }
+    ensures { result ≡ met_by s n }
 {
     let mut u = s;
     u.due = rest_of(s.mode, s.due, n);
@@ -241,7 +241,7 @@ pub(crate) fn met(s: Serving, n: usize) -> Serving
 
 // n bytes wait in the pack.
 pub(crate) fn holding(s: Serving, n: usize) -> Serving
-    ensures { result ≡ heldBy s n }
+    ensures { result ≡ held_by s n }
 {
     let mut u = s;
     u.held = n;
@@ -250,7 +250,7 @@ pub(crate) fn holding(s: Serving, n: usize) -> Serving
 
 // The output is n bytes further on.
 pub(crate) fn further(s: Serving, n: usize) -> Serving
-    ensures { result ≡ furtherBy s n }
+    ensures { result ≡ further_by s n }
 {
     let mut u = s;
     if u64::MAX - (n as u64) < s.place {
@@ -262,7 +262,7 @@ pub(crate) fn further(s: Serving, n: usize) -> Serving
 
 // Of n bytes of output `same` are those that are expected; `got` were read to see that.
 pub(crate) fn judged(s: Serving, got: usize, same: usize, n: usize) -> Serving
-    ensures { result ≡ judgedBy s got same n }
+    ensures { result ≡ judged_by s got same n }
 {
     let u = further(met(s, got), same);
     if same < n {

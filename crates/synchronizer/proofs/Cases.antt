@@ -7,12 +7,12 @@ use Prim.Native.Nat.{ℕ}
 use mathlib.Core.Bool.{true, false}
 use mathlib.Core.List.{[], ◌∷◌}
 use Rattle.certificates.specs.declared.numbers.Hash.{Hash}
-use Rattle.certificates.specs.Messages.{isGenesis}
+use Rattle.certificates.specs.Messages.{is_genesis}
 use Rattle.certificates.proofs.MessageLaws.{genesis-round, genesis-other}
 use Rattle.synchronizer.specs.declared.table.Slot.{Slot}
-use Rattle.certificates.specs.Error.{ancestorAbsent, roundNotBelow}
+use Rattle.certificates.specs.Error.{ancestor_absent, round_not_below}
 use Rattle.synchronizer.specs.Table.{fits, lowest, parent_of}
-use Rattle.synchronizer.specs.Walk.{refused, delivers, onParent, walkFrom, walk_of}
+use Rattle.synchronizer.specs.Walk.{refused, delivers, on_parent, walk_from, walk_of}
 
 -- the block of a round on that of another, its digest the round
 abbrev pub named : ℕ → Hash
@@ -22,19 +22,19 @@ abbrev pub block : ℕ → ℕ → Slot
 block r p = record { used = true; digest = named r; round = record { 0 = r }; parent = named p; parent_round = record { 0 = p } }
 
 -- the first block is on genesis, and no other is
-on-genesis : isGenesis (named 0) 0 ≡ true
+on-genesis : is_genesis (named 0) 0 ≡ true
 on-genesis = sym (genesis-round (named 0) 0 refl refl)
 
-on_one : isGenesis (named 1) 1 ≡ false
+on_one : is_genesis (named 1) 1 ≡ false
 on_one = sym (genesis-other (named 1) 1 refl refl)
 
-on-two : isGenesis (named 2) 2 ≡ false
+on-two : is_genesis (named 2) 2 ≡ false
 on-two = sym (genesis-other (named 2) 2 refl refl)
 
-on-three : isGenesis (named 3) 3 ≡ false
+on-three : is_genesis (named 3) 3 ≡ false
 on-three = sym (genesis-other (named 3) 3 refl refl)
 
-on-four : isGenesis (named 4) 4 ≡ false
+on-four : is_genesis (named 4) 4 ≡ false
 on-four = sym (genesis-other (named 4) 4 refl refl)
 
 pub walk-readings :
@@ -42,7 +42,7 @@ pub walk-readings :
     × ((walk_of (block 1 0 ∷ block 4 1 ∷ []) (block 4 1) 1 ≡ delivers (block 4 1 ∷ []))
     × ((walk_of (block 5 3 ∷ block 3 1 ∷ block 1 0 ∷ []) (block 5 3) 0 ≡ delivers (block 1 0 ∷ block 3 1 ∷ block 5 3 ∷ []))
     × ((walk_of (block 2 0 ∷ []) (block 2 0) 0 ≡ delivers (block 2 0 ∷ []))
-    × ((walk_of (block 1 0 ∷ block 4 3 ∷ []) (block 4 3) 0 ≡ refused ancestorAbsent)
-    × (walk_of (block 3 4 ∷ block 4 3 ∷ []) (block 4 3) 0 ≡ refused roundNotBelow)))))
-unfolding walk_of walkFrom onParent parent_of lowest fits
+    × ((walk_of (block 1 0 ∷ block 4 3 ∷ []) (block 4 3) 0 ≡ refused ancestor_absent)
+    × (walk_of (block 3 4 ∷ block 4 3 ∷ []) (block 4 3) 0 ≡ refused round_not_below)))))
+unfolding walk_of walk_from on_parent parent_of lowest fits
 walk-readings = (rw (on-two, on_one), (rw on_one, (rw (on-three, on_one), (rw on-genesis, (rw on-three, rw (on-three, on-four))))))

@@ -442,34 +442,34 @@ by_cases false f g = g refl
 pub at-end : {M : Type 1} {𝓤 : Ura M} (𝓛 : Logic 𝓤) (Rs : List RattleType) → Makess 𝓛 Rs (Ises Rs) → (a : Denots Rs) (vss : Valss Rs) → Are Rs (Ises Rs) a vss
     → (Q : RattleType) → Makes 𝓛 Q (Is Q) → (r : Q.Denot) (w : Val) → Is Q r (w ∷ []) → {φ : Type 0} → φ → (κ : Lft) (q : Share) (Own : Fml)
     → ent 𝓤 (sep 𝓤 (sem 𝓛 Own) (𝓛.A.lft κ q)) (sep 𝓤 (sep 𝓤 (sep 𝓤 (𝓛.A.lft κ q) (emp 𝓤)) (sep 𝓤 (sem 𝓛 (fsep Own (owns Rs a vss))) (sem 𝓛 (Q.own r (w ∷ []))))) (fact 𝓤 φ))
-at-end 𝓛 Rs mk a vss are Q mkQ r w is e κ q Own =
+at-end 𝓛 Rs mk a vss are Q mk_q r w is e κ q Own =
     qed 𝓛 (‵ Own ∷ ‵ (flft κ q) ∷ []) ∵ says ! e $ nothing ! $ move ! (2 ∷ 0 ∷ []) $ join ! $ frame ! $ use0 𝓛 (‵ (owns Rs a vss)) (owns_make 𝓛 Rs (Ises Rs) mk a vss are) $ move ! (1 ∷ 0 ∷ []) $ fjoin ! $ frame ! $
-    use0 𝓛 (‵ (Q.own r (w ∷ []))) (mkQ r (w ∷ []) is) $ done !
+    use0 𝓛 (‵ (Q.own r (w ∷ []))) (mk_q r (w ∷ []) is) $ done !
 
 -- the same where the first two parameters are slices
 pub at-end-two : {M : Type 1} {𝓤 : Ura M} (𝓛 : Logic 𝓤) (Rs : List RattleType) → Makess 𝓛 Rs (Ises Rs) → (a : Denots Rs) (vss : Valss Rs) → Are Rs (Ises Rs) a vss
     → (Q : RattleType) → Makes 𝓛 Q (Is Q) → (r : Q.Denot) (w : Val) → Is Q r (w ∷ []) → {φ : Type 0} → φ → (κ κ' : Lft) (q q' : Share) (Own Own' : Fml)
     → ent 𝓤 (sep 𝓤 (sep 𝓤 (sem 𝓛 Own) (𝓛.A.lft κ q)) (sep 𝓤 (sem 𝓛 Own') (𝓛.A.lft κ' q')))
     (sep 𝓤 (sep 𝓤 (sep 𝓤 (𝓛.A.lft κ q) (sep 𝓤 (𝓛.A.lft κ' q') (emp 𝓤))) (sep 𝓤 (sem 𝓛 (fsep Own (fsep Own' (owns Rs a vss)))) (sem 𝓛 (Q.own r (w ∷ []))))) (fact 𝓤 φ))
-at-end-two 𝓛 Rs mk a vss are Q mkQ r w is e κ κ' q q' Own Own' =
+at-end-two 𝓛 Rs mk a vss are Q mk_q r w is e κ κ' q q' Own Own' =
     qed 𝓛 ((‵ Own ⊛ ‵ (flft κ q)) ∷ (‵ Own' ⊛ ‵ (flft κ' q')) ∷ []) ∵ says ! e $ split ! $ move ! (2 ∷ []) $ split ! $ nothing ! $ move ! (2 ∷ 0 ∷ []) $ join ! $ move ! (3 ∷ 0 ∷ []) $ join ! $ frame ! $
-    use0 𝓛 (‵ (owns Rs a vss)) (owns_make 𝓛 Rs (Ises Rs) mk a vss are) $ move ! (1 ∷ 0 ∷ []) $ fjoin ! $ move ! (1 ∷ 0 ∷ []) $ fjoin ! $ frame ! $ use0 𝓛 (‵ (Q.own r (w ∷ []))) (mkQ r (w ∷ []) is) $ done !
+    use0 𝓛 (‵ (owns Rs a vss)) (owns_make 𝓛 Rs (Ises Rs) mk a vss are) $ move ! (1 ∷ 0 ∷ []) $ fjoin ! $ move ! (1 ∷ 0 ∷ []) $ fjoin ! $ frame ! $ use0 𝓛 (‵ (Q.own r (w ∷ []))) (mk_q r (w ∷ []) is) $ done !
 
 pub at-end-three : {M : Type 1} {𝓤 : Ura M} (𝓛 : Logic 𝓤) (Rs : List RattleType) → Makess 𝓛 Rs (Ises Rs) → (a : Denots Rs) (vss : Valss Rs) → Are Rs (Ises Rs) a vss
     → (Q : RattleType) → Makes 𝓛 Q (Is Q) → (r : Q.Denot) (w : Val) → Is Q r (w ∷ []) → {φ : Type 0} → φ → (κ κ' κ'' : Lft) (q q' q'' : Share) (Own Own' Own'' : Fml)
     → ent 𝓤 (sep 𝓤 (sep 𝓤 (sem 𝓛 Own) (𝓛.A.lft κ q)) (sep 𝓤 (sep 𝓤 (sem 𝓛 Own') (𝓛.A.lft κ' q')) (sep 𝓤 (sem 𝓛 Own'') (𝓛.A.lft κ'' q''))))
     (sep 𝓤 (sep 𝓤 (sep 𝓤 (𝓛.A.lft κ q) (sep 𝓤 (𝓛.A.lft κ' q') (sep 𝓤 (𝓛.A.lft κ'' q'') (emp 𝓤)))) (sep 𝓤 (sem 𝓛 (fsep Own (fsep Own' (fsep Own'' (owns Rs a vss))))) (sem 𝓛 (Q.own r (w ∷ []))))) (fact 𝓤 φ))
-at-end-three 𝓛 Rs mk a vss are Q mkQ r w is e κ κ' κ'' q q' q'' Own Own' Own'' =
+at-end-three 𝓛 Rs mk a vss are Q mk_q r w is e κ κ' κ'' q q' q'' Own Own' Own'' =
     qed 𝓛 ((‵ Own ⊛ ‵ (flft κ q)) ∷ (‵ Own' ⊛ ‵ (flft κ' q')) ∷ (‵ Own'' ⊛ ‵ (flft κ'' q'')) ∷ []) ∵ says ! e $ split ! $ move ! (2 ∷ []) $ split ! $ move ! (4 ∷ []) $ split ! $ nothing ! $ move ! (2 ∷ 0 ∷ []) $ join ! $ move ! (3 ∷ 0 ∷ []) $ join ! $ move ! (4 ∷ 0 ∷ []) $ join ! $ frame ! $
-    use0 𝓛 (‵ (owns Rs a vss)) (owns_make 𝓛 Rs (Ises Rs) mk a vss are) $ move ! (1 ∷ 0 ∷ []) $ fjoin ! $ move ! (1 ∷ 0 ∷ []) $ fjoin ! $ move ! (1 ∷ 0 ∷ []) $ fjoin ! $ frame ! $ use0 𝓛 (‵ (Q.own r (w ∷ []))) (mkQ r (w ∷ []) is) $ done !
+    use0 𝓛 (‵ (owns Rs a vss)) (owns_make 𝓛 Rs (Ises Rs) mk a vss are) $ move ! (1 ∷ 0 ∷ []) $ fjoin ! $ move ! (1 ∷ 0 ∷ []) $ fjoin ! $ move ! (1 ∷ 0 ∷ []) $ fjoin ! $ frame ! $ use0 𝓛 (‵ (Q.own r (w ∷ []))) (mk_q r (w ∷ []) is) $ done !
 
 -- and of any number, given as at entry
 pub at-end-all : {M : Type 1} {𝓤 : Ura M} (𝓛 : Logic 𝓤) (Rs : List RattleType) → Makess 𝓛 Rs (Ises Rs) → (a : Denots Rs) (vss : Valss Rs) → Are Rs (Ises Rs) a vss
     → (Q : RattleType) → Makes 𝓛 Q (Is Q) → (r : Q.Denot) (w : Val) → Is Q r (w ∷ []) → {φ : Type 0} → φ → (ss : List (Lft × (Share × Fml)))
     → ent 𝓤 (⋆ 𝓛 (entries 𝓛 ss)) (sep 𝓤 (sep 𝓤 (mean 𝓛 (tokens 𝓛 ss)) (sep 𝓤 (sem 𝓛 (owned 𝓛 ss (owns Rs a vss))) (sem 𝓛 (Q.own r (w ∷ []))))) (fact 𝓤 φ))
-at-end-all 𝓛 Rs mk a vss are Q mkQ r w is e ss =
+at-end-all 𝓛 Rs mk a vss are Q mk_q r w is e ss =
     qed 𝓛 (raw (⋆ 𝓛 (entries 𝓛 ss)) ∷ []) ∵ says ! e $ use0 𝓛 (‵ (owns Rs a vss)) (owns_make 𝓛 Rs (Ises Rs) mk a vss are) $ move ! (1 ∷ 0 ∷ []) $ use2 𝓛 (tokens 𝓛 ss ⊛ ‵ (owned 𝓛 ss (owns Rs a vss))) (all-out 𝓛 ss (owns Rs a vss)) $ split ! $ frame ! $ frame ! $
-    use0 𝓛 (‵ (Q.own r (w ∷ []))) (mkQ r (w ∷ []) is) $ done !
+    use0 𝓛 (‵ (Q.own r (w ∷ []))) (mk_q r (w ∷ []) is) $ done !
 
 -- ---- loans. An entry i of the caller's is lent for a call: the callee is passed what F says, at a lifetime and under a name that are picked for the call, and the caller keeps something meanwhile. Once the callee has said, under that name, at what the loan ended, the caller has its entry again
 pub record Loan {M : Type 1} {𝓤 : Ura M} (𝓛 : Logic 𝓤) (F : Lft → GName → Fml) {Last : Type 0} (said : GName → Last → Fml) (i : Item 𝓤) (after : Last → Item 𝓤) (ok : Last → Type 0) : Type 2 where

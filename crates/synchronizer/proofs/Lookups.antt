@@ -26,17 +26,17 @@ use lib.Dec.{eqb, ltb}
 use lib.ListN.{length, set, replicate}
 use lib.Seq.{get_or-set_same, get_or-set_other}
 use Rattle.certificates.specs.declared.numbers.Hash.{Hash}
-use Rattle.certificates.specs.Numbers.{sameHash}
-use Rattle.certificates.specs.Messages.{isGenesis}
+use Rattle.certificates.specs.Numbers.{same_hash}
+use Rattle.certificates.specs.Messages.{is_genesis}
 use Rattle.certificates.proofs.NumbersLaws.{hash-same, hash-self, genesis-is}
-use Rattle.certificates.specs.Error.{waitParent, tableFull, ancestorAbsent, roundNotBelow}
+use Rattle.certificates.specs.Error.{wait_parent, table_full, ancestor_absent, round_not_below}
 use Rattle.synchronizer.specs.declared.table.Slot.{Slot}
 use Rattle.synchronizer.specs.declared.table.Want.{Want}
 use Rattle.synchronizer.specs.declared.ancestors.Parent.{Parent}
-use Rattle.synchronizer.specs.Table.{blank, slotAt, wantDigest, wantFree, fits, lowest, place_of, stored, cleared, genesis, found_at, parent_of, ancestorsOf}
+use Rattle.synchronizer.specs.Table.{blank, slot_at, want_digest, want_free, fits, lowest, place_of, stored, cleared, genesis, found_at, parent_of, ancestors_of}
 use Rattle.synchronizer.specs.declared.settle.Work.{Work}
-use Rattle.synchronizer.specs.Walk.{Walk, refused, delivers, andNewer, onParent, walkFrom, walk_of, committedBy, commitOf, noCommit}
-use Rattle.synchronizer.specs.Settle.{answered, isTwoChain, commitIf, linkedOf, processedBy, settled_of, block}
+use Rattle.synchronizer.specs.Walk.{Walk, refused, delivers, and_newer, on_parent, walk_from, walk_of, committed_by, commit_of, no_commit}
+use Rattle.synchronizer.specs.Settle.{answered, is_two_chain, commit_if, linked_of, processed_by, settled_of, block}
 use Rattle.synchronizer.proofs.TableLaws.{stored-length}
 use Rattle.synchronizer.proofs.WalkLaws.{walk_step}
 use Rattle.synchronizer.proofs.SettleLaws.{settled-block}
@@ -44,7 +44,7 @@ use Rattle.synchronizer.proofs.SettleLaws.{settled-block}
 pub record Has (t : List Slot) (s : Slot) : Type 0 where
   pub place : ℕ
   pub within : place < length t
-  pub is : s ≡ slotAt t place
+  pub is : s ≡ slot_at t place
   pub used : s.used ≡ true
 
 never : {A : Type 0} → ◌≡◌ {A = Bool} true false → A
@@ -52,18 +52,18 @@ never e = absurd (let z : ◌≡◌ {A = ℕ} 0 1 = cc in omega arith)
 
 -- ---- looking
 
-lowest-fits : (t : List Slot) (w : Want) → lowest t w < length t → fits (slotAt t (lowest t w)) w ≡ true
+lowest-fits : (t : List Slot) (w : Want) → lowest t w < length t → fits (slot_at t (lowest t w)) w ≡ true
 unfolding lowest
 lowest-fits [] w l = absurd (omega arith)
 lowest-fits (s ∷ t) w l = cases (fits s w) refl l (λ k. lowest-fits t w k)
   where
-    cases : (b : Bool) → fits s w ≡ b → cond b 0 (suc (lowest t w)) < suc (length t) → (lowest t w < length t → fits (slotAt t (lowest t w)) w ≡ true)
-        → fits (slotAt (s ∷ t) (cond b 0 (suc (lowest t w)))) w ≡ true
+    cases : (b : Bool) → fits s w ≡ b → cond b 0 (suc (lowest t w)) < suc (length t) → (lowest t w < length t → fits (slot_at t (lowest t w)) w ≡ true)
+        → fits (slot_at (s ∷ t) (cond b 0 (suc (lowest t w)))) w ≡ true
     cases true e l f = e
     cases false e l f = f (omega arith)
 
 -- where a slot fits, the lowest one that fits is found
-fits-lowest : (t : List Slot) (w : Want) (i : ℕ) → i < length t → fits (slotAt t i) w ≡ true → lowest t w < length t
+fits-lowest : (t : List Slot) (w : Want) (i : ℕ) → i < length t → fits (slot_at t i) w ≡ true → lowest t w < length t
 unfolding lowest
 fits-lowest [] w i l f = absurd (omega arith)
 fits-lowest (s ∷ t) w zero l f = rw f (omega arith)
@@ -73,41 +73,41 @@ fits-lowest (s ∷ t) w (suc i) l f = cases (fits s w) (fits-lowest t w i (omega
     cases true h = omega arith
     cases false h = omega arith
 
-fits-digest : (s : Slot) (h : Hash) → fits s (wantDigest h) ≡ true → (s.used ≡ true) × (s.digest ≡ h)
+fits-digest : (s : Slot) (h : Hash) → fits s (want_digest h) ≡ true → (s.used ≡ true) × (s.digest ≡ h)
 unfolding fits
 fits-digest s h e = cases s.used refl e
   where
-    cases : (b : Bool) → s.used ≡ b → cond b (sameHash s.digest h) false ≡ true → (s.used ≡ true) × (s.digest ≡ h)
+    cases : (b : Bool) → s.used ≡ b → cond b (same_hash s.digest h) false ≡ true → (s.used ≡ true) × (s.digest ≡ h)
     cases true u f = (u, hash-same s.digest h f)
     cases false u f = never (sym f)
 
-digest-fits : (s : Slot) → s.used ≡ true → fits s (wantDigest s.digest) ≡ true
+digest-fits : (s : Slot) → s.used ≡ true → fits s (want_digest s.digest) ≡ true
 unfolding fits
 digest-fits s u = rw u (hash-self s.digest)
 
 -- A lookup that finds something finds a slot in use, with the digest that was asked for.
-pub looked-up : (t : List Slot) (h : Hash) → lowest t (wantDigest h) < length t → Has t (slotAt t (lowest t (wantDigest h))) × ((slotAt t (lowest t (wantDigest h))).digest ≡ h)
+pub looked-up : (t : List Slot) (h : Hash) → lowest t (want_digest h) < length t → Has t (slot_at t (lowest t (want_digest h))) × ((slot_at t (lowest t (want_digest h))).digest ≡ h)
 looked-up t h l =
-    let f = fits-digest (slotAt t (lowest t (wantDigest h))) h (lowest-fits t (wantDigest h) l) in
-    (record { place = lowest t (wantDigest h); within = l; is = refl; used = f.0 }, f.1)
+    let f = fits-digest (slot_at t (lowest t (want_digest h))) h (lowest-fits t (want_digest h) l) in
+    (record { place = lowest t (want_digest h); within = l; is = refl; used = f.0 }, f.1)
 
 -- And it finds something where a slot in use has that digest.
-pub found-has : (t : List Slot) (s : Slot) → Has t s → lowest t (wantDigest s.digest) < length t
-found-has t s h = fits-lowest t (wantDigest s.digest) h.place h.within (rw (← h.is) (digest-fits s h.used))
+pub found-has : (t : List Slot) (s : Slot) → Has t s → lowest t (want_digest s.digest) < length t
+found-has t s h = fits-lowest t (want_digest s.digest) h.place h.within (rw (← h.is) (digest-fits s h.used))
 
 -- ---- parents
 
-pub parent-has : (t : List Slot) (b : Slot) → isGenesis b.parent b.parent_round.0 ≡ false → (parent_of t b).found ≡ true
+pub parent-has : (t : List Slot) (b : Slot) → is_genesis b.parent b.parent_round.0 ≡ false → (parent_of t b).found ≡ true
     → Has t (parent_of t b).slot × ((parent_of t b).slot.digest ≡ b.parent)
 unfolding parent_of
 parent-has t b g f = rw g (looked-up t b.parent (ltb-true _ _ (rw g at f)))
 
-pub parent-genesis : (t : List Slot) (b : Slot) → isGenesis b.parent b.parent_round.0 ≡ true → parent_of t b ≡ record { found = true; slot = genesis }
+pub parent-genesis : (t : List Slot) (b : Slot) → is_genesis b.parent b.parent_round.0 ≡ true → parent_of t b ≡ record { found = true; slot = genesis }
 unfolding parent_of
 parent-genesis t b g = rw g
 
 -- the parent is found where a slot in use has the digest that the QC names
-found-parent : (t : List Slot) (b : Slot) → isGenesis b.parent b.parent_round.0 ≡ false → (c : Slot) → Has t c → c.digest ≡ b.parent → (parent_of t b).found ≡ true
+found-parent : (t : List Slot) (b : Slot) → is_genesis b.parent b.parent_round.0 ≡ false → (c : Slot) → Has t c → c.digest ≡ b.parent → (parent_of t b).found ≡ true
 unfolding parent_of
 found-parent t b g c h e = rw g (lt-ltb _ _ (rw e at (found-has t c h)))
 
@@ -118,10 +118,10 @@ unfolding stored
 stored-has t b s h =
     let l : h.place < length t = omega (arith, h.within, stored-length t b) in
     by_cases (ℕ_discrete h.place (place_of t b))
-    (λ e. inl (h.is ∙ ap (λ (i : ℕ). slotAt (set t (place_of t b) b) i) e ∙ get_or-set_same t (place_of t b) b blank (rw e at l)))
+    (λ e. inl (h.is ∙ ap (λ (i : ℕ). slot_at (set t (place_of t b) b) i) e ∙ get_or-set_same t (place_of t b) b blank (rw e at l)))
     (λ n. inr (record { place = h.place; within = l; is = h.is ∙ get_or-set_other t (place_of t b) h.place b blank n; used = h.used }))
 
-blank-at : (n i : ℕ) → (slotAt (replicate n blank) i).used ≡ false
+blank-at : (n i : ℕ) → (slot_at (replicate n blank) i).used ≡ false
 blank-at zero i = refl
 blank-at (suc n) zero = refl
 blank-at (suc n) (suc i) = blank-at n i
@@ -132,20 +132,20 @@ cleared-has t s h = never (sym h.used ∙ ap (λ (x : Slot). x.used) h.is ∙ bl
 
 -- ---- a digest that is in a table stays in it
 
-free-unused : (s : Slot) → fits s wantFree ≡ true → s.used ≡ true → ⊥
+free-unused : (s : Slot) → fits s want_free ≡ true → s.used ≡ true → ⊥
 unfolding fits
 free-unused s f v = never (sym (rw v at f))
 
 -- a block takes the place of a slot that is free, or has its digest
-place-takes : (t : List Slot) (b : Slot) (c : Slot) → c ≡ slotAt t (place_of t b) → place_of t b < length t → c.used ≡ true → c.digest ≡ b.digest
+place-takes : (t : List Slot) (b : Slot) (c : Slot) → c ≡ slot_at t (place_of t b) → place_of t b < length t → c.used ≡ true → c.digest ≡ b.digest
 unfolding place_of
-place-takes t b c e l u = cases (ltb (lowest t (wantDigest b.digest)) (length t)) refl e l
+place-takes t b c e l u = cases (ltb (lowest t (want_digest b.digest)) (length t)) refl e l
   where
-    cases : (x : Bool) → ltb (lowest t (wantDigest b.digest)) (length t) ≡ x
-        → c ≡ slotAt t (cond x (lowest t (wantDigest b.digest)) (lowest t wantFree)) → cond x (lowest t (wantDigest b.digest)) (lowest t wantFree) < length t
+    cases : (x : Bool) → ltb (lowest t (want_digest b.digest)) (length t) ≡ x
+        → c ≡ slot_at t (cond x (lowest t (want_digest b.digest)) (lowest t want_free)) → cond x (lowest t (want_digest b.digest)) (lowest t want_free) < length t
         → c.digest ≡ b.digest
     cases true f e l = ap (λ (s : Slot). s.digest) e ∙ (looked-up t b.digest l).1
-    cases false f e l = absurd (free-unused c (rw e (lowest-fits t wantFree l)) u)
+    cases false f e l = absurd (free-unused c (rw e (lowest-fits t want_free l)) u)
 
 pub stored-keeps : (t : List Slot) (b c : Slot) → b.used ≡ true → Has t c → (s : Slot) × Has (stored t b) s × (s.digest ≡ c.digest)
 unfolding stored
@@ -154,7 +154,7 @@ stored-keeps t b c u h =
     by_cases (ℕ_discrete h.place (place_of t b))
     (λ e.
     let l : place_of t b < length t = rw e at h.within in
-    let i : b ≡ slotAt (set t (place_of t b) b) (place_of t b) = sym (get_or-set_same t (place_of t b) b blank l) in
+    let i : b ≡ slot_at (set t (place_of t b) b) (place_of t b) = sym (get_or-set_same t (place_of t b) b blank l) in
     (b, record { place = place_of t b; within = rw n l; is = i; used = u }, sym (place-takes t b c (rw e at h.is) l h.used)))
     (λ m. (c, record { place = h.place; within = rw n h.within; is = h.is ∙ sym (get_or-set_other t (place_of t b) h.place b blank m); used = h.used }, refl))
 
@@ -169,9 +169,9 @@ closed-cleared t = record { parent = λ s h. absurd (cleared-has t s h) }
 module _ (t : List Slot) (b : Slot) where
   -- a parent that was found is found after the store
   pub stays-found : (s : Slot) → b.used ≡ true → (parent_of t s).found ≡ true → (parent_of (stored t b) s).found ≡ true
-  stays-found s u f = cases (isGenesis s.parent s.parent_round.0) refl
+  stays-found s u f = cases (is_genesis s.parent s.parent_round.0) refl
     where
-      cases : (g : Bool) → isGenesis s.parent s.parent_round.0 ≡ g → (parent_of (stored t b) s).found ≡ true
+      cases : (g : Bool) → is_genesis s.parent s.parent_round.0 ≡ g → (parent_of (stored t b) s).found ≡ true
       cases true g = ap (λ (p : Parent). p.found) (parent-genesis (stored t b) s g)
       cases false g =
           let h = parent-has t s g f in
@@ -185,32 +185,32 @@ module _ (t : List Slot) (b : Slot) where
       new s (inl e) = rw e (stays-found b u f)
       new s (inr h) = stays-found s u (c.parent s h)
 
-both_found : (x y : Bool) → cond x (cond y 0 ancestorAbsent) waitParent ≡ 0 → (x ≡ true) × (y ≡ true)
+both_found : (x y : Bool) → cond x (cond y 0 ancestor_absent) wait_parent ≡ 0 → (x ≡ true) × (y ≡ true)
 both_found true true e = (refl, refl)
 both_found true false e = absurd (omega arith)
 both_found false y e = absurd (omega arith)
 
-pub ancestors-both : (t : List Slot) (b : Slot) → (ancestorsOf t b).answer ≡ 0 → ((parent_of t b).found ≡ true) × ((parent_of t (ancestorsOf t b).b1).found ≡ true)
-unfolding ancestorsOf
+pub ancestors-both : (t : List Slot) (b : Slot) → (ancestors_of t b).answer ≡ 0 → ((parent_of t b).found ≡ true) × ((parent_of t (ancestors_of t b).b1).found ≡ true)
+unfolding ancestors_of
 ancestors-both t b e = both_found (parent_of t b).found (parent_of t (parent_of t b).slot).found e
 
 -- b1 is named by the block's QC and b0 by that of b1, and neither is genesis
 pub record Line (t : List Slot) (b : Slot) : Type 0 where
-  pub other1 : isGenesis b.parent b.parent_round.0 ≡ false
-  pub has1 : Has t (ancestorsOf t b).b1
-  pub on1 : (ancestorsOf t b).b1.digest ≡ b.parent
-  pub other0 : isGenesis (ancestorsOf t b).b1.parent (ancestorsOf t b).b1.parent_round.0 ≡ false
-  pub has0 : Has t (ancestorsOf t b).b0
-  pub on0 : (ancestorsOf t b).b0.digest ≡ (ancestorsOf t b).b1.parent
+  pub other1 : is_genesis b.parent b.parent_round.0 ≡ false
+  pub has1 : Has t (ancestors_of t b).b1
+  pub on1 : (ancestors_of t b).b1.digest ≡ b.parent
+  pub other0 : is_genesis (ancestors_of t b).b1.parent (ancestors_of t b).b1.parent_round.0 ≡ false
+  pub has0 : Has t (ancestors_of t b).b0
+  pub on0 : (ancestors_of t b).b0.digest ≡ (ancestors_of t b).b1.parent
 
-pub line : (t : List Slot) (b : Slot) → (ancestorsOf t b).answer ≡ 0 → 0 < (ancestorsOf t b).b0.round.0 → 0 < (ancestorsOf t b).b1.round.0 → Line t b
-unfolding ancestorsOf
-line t b e l0 l1 = one (isGenesis b.parent b.parent_round.0) refl
+pub line : (t : List Slot) (b : Slot) → (ancestors_of t b).answer ≡ 0 → 0 < (ancestors_of t b).b0.round.0 → 0 < (ancestors_of t b).b1.round.0 → Line t b
+unfolding ancestors_of
+line t b e l0 l1 = one (is_genesis b.parent b.parent_round.0) refl
   where
     f : ((parent_of t b).found ≡ true) × ((parent_of t (parent_of t b).slot).found ≡ true)
     f = both_found (parent_of t b).found (parent_of t (parent_of t b).slot).found e
 
-    two : (g : Bool) → isGenesis b.parent b.parent_round.0 ≡ false → isGenesis (parent_of t b).slot.parent (parent_of t b).slot.parent_round.0 ≡ g → Line t b
+    two : (g : Bool) → is_genesis b.parent b.parent_round.0 ≡ false → is_genesis (parent_of t b).slot.parent (parent_of t b).slot.parent_round.0 ≡ g → Line t b
     two true o g =
         let z : (parent_of t (parent_of t b).slot).slot.round.0 ≡ 0 = ap (λ (p : Parent). p.slot.round.0) (parent-genesis t (parent_of t b).slot g) in
         absurd (omega arith)
@@ -219,25 +219,25 @@ line t b e l0 l1 = one (isGenesis b.parent b.parent_round.0) refl
         let h0 = parent-has t (parent_of t b).slot g f.1 in
         record { other1 = o; has1 = h1.0; on1 = h1.1; other0 = g; has0 = h0.0; on0 = h0.1 }
 
-    one : (g : Bool) → isGenesis b.parent b.parent_round.0 ≡ g → Line t b
+    one : (g : Bool) → is_genesis b.parent b.parent_round.0 ≡ g → Line t b
     one true g =
         let z : (parent_of t b).slot.round.0 ≡ 0 = ap (λ (p : Parent). p.slot.round.0) (parent-genesis t b g) in
         absurd (omega arith)
-    one false g = two (isGenesis (parent_of t b).slot.parent (parent_of t b).slot.parent_round.0) g refl
+    one false g = two (is_genesis (parent_of t b).slot.parent (parent_of t b).slot.parent_round.0) g refl
 
-absent-found : (x y : Bool) → cond x (cond y 0 ancestorAbsent) waitParent ≡ ancestorAbsent → (x ≡ true) × (y ≡ false)
+absent-found : (x y : Bool) → cond x (cond y 0 ancestor_absent) wait_parent ≡ ancestor_absent → (x ≡ true) × (y ≡ false)
 absent-found true true e = absurd (omega arith)
 absent-found true false e = (refl, refl)
 absent-found false y e = absurd (omega arith)
 
 -- In a closed table no grandparent is absent.
-pub closed-ancestors : (t : List Slot) (b : Slot) → Closed t → (ancestorsOf t b).answer ≡ ancestorAbsent → ⊥
-unfolding ancestorsOf
+pub closed-ancestors : (t : List Slot) (b : Slot) → Closed t → (ancestors_of t b).answer ≡ ancestor_absent → ⊥
+unfolding ancestors_of
 closed-ancestors t b c e =
     let f = absent-found (parent_of t b).found (parent_of t (parent_of t b).slot).found e in
-    cases (isGenesis b.parent b.parent_round.0) refl f.0 f.1
+    cases (is_genesis b.parent b.parent_round.0) refl f.0 f.1
   where
-    cases : (g : Bool) → isGenesis b.parent b.parent_round.0 ≡ g → (parent_of t b).found ≡ true → (parent_of t (parent_of t b).slot).found ≡ false → ⊥
+    cases : (g : Bool) → is_genesis b.parent b.parent_round.0 ≡ g → (parent_of t b).found ≡ true → (parent_of t (parent_of t b).slot).found ≡ false → ⊥
     cases true g f h = never (sym (ap (λ (p : Parent). p.found) (parent-genesis t genesis genesis-is)) ∙ rw (ap (λ (p : Parent). p.slot) (parent-genesis t b g)) at h)
     cases false g f h = never (sym (c.parent (parent_of t b).slot (parent-has t b g f).0) ∙ h)
 
@@ -247,9 +247,9 @@ closed-ancestors t b c e =
 -- genesis or not above l.
 pub data Walked (Found : Slot → Type 0) (l : ℕ) : Slot → List Slot → Type 0 where
   near : {s : Slot} → s.round.0 ≤ suc l → Walked Found l s (s ∷ [])
-  bottom : {s : Slot} → isGenesis s.parent s.parent_round.0 ≡ true → Walked Found l s (s ∷ [])
-  stop : {s : Slot} (c : Slot) → isGenesis s.parent s.parent_round.0 ≡ false → c.digest ≡ s.parent → Found c → c.round.0 ≤ l → Walked Found l s (s ∷ [])
-  more : {s : Slot} {ss : List Slot} (c : Slot) → isGenesis s.parent s.parent_round.0 ≡ false → c.digest ≡ s.parent → Found c → l < c.round.0
+  bottom : {s : Slot} → is_genesis s.parent s.parent_round.0 ≡ true → Walked Found l s (s ∷ [])
+  stop : {s : Slot} (c : Slot) → is_genesis s.parent s.parent_round.0 ≡ false → c.digest ≡ s.parent → Found c → c.round.0 ≤ l → Walked Found l s (s ∷ [])
+  more : {s : Slot} {ss : List Slot} (c : Slot) → is_genesis s.parent s.parent_round.0 ≡ false → c.digest ≡ s.parent → Found c → l < c.round.0
       → Walked Found l c ss → Walked Found l s (ss ++ s ∷ [])
 
 pub walked_as : {Found Known : Slot → Type 0} {l : ℕ} {s : Slot} {ss : List Slot} → ((c : Slot) → Found c → Known c) → Walked Found l s ss → Walked Known l s ss
@@ -259,7 +259,7 @@ walked_as f (stop c e d k h) = stop c e d (f c k) h
 walked_as f (more c e d k h w) = more c e d (f c k) h (walked_as f w)
 
 module _ (t : List Slot) (last : ℕ) where
-  newer-is : (w : Walk) (b : Slot) (bs : List Slot) → andNewer w b ≡ delivers bs → (cs : List Slot) × (w ≡ delivers cs) × (bs ≡ cs ++ b ∷ [])
+  newer-is : (w : Walk) (b : Slot) (bs : List Slot) → and_newer w b ≡ delivers bs → (cs : List Slot) × (w ≡ delivers cs) × (bs ≡ cs ++ b ∷ [])
   newer-is (refused n) b bs e = absurd (let z : ◌≡◌ {A = ℕ} 0 1 = cc in omega arith)
   newer-is (delivers cs) b bs e = (cs, refl, (cc))
 
@@ -270,50 +270,50 @@ module _ (t : List Slot) (last : ℕ) where
   no_walk n bs e = absurd (let z : ◌≡◌ {A = ℕ} 0 1 = cc in omega arith)
 
   ends_at : (b : Slot) → (parent_of t b).found ≡ true → (parent_of t b).slot.round.0 ≤ last → Walked (Has t) last b (b ∷ [])
-  ends_at b f l = cases (isGenesis b.parent b.parent_round.0) refl
+  ends_at b f l = cases (is_genesis b.parent b.parent_round.0) refl
     where
-      cases : (g : Bool) → isGenesis b.parent b.parent_round.0 ≡ g → Walked (Has t) last b (b ∷ [])
+      cases : (g : Bool) → is_genesis b.parent b.parent_round.0 ≡ g → Walked (Has t) last b (b ∷ [])
       cases true g = bottom g
       cases false g = let h = parent-has t b g f in stop (parent_of t b).slot g h.1 h.0 l
 
   goes_on : (b : Slot) (cs : List Slot) → (parent_of t b).found ≡ true → last < (parent_of t b).slot.round.0 → Walked (Has t) last (parent_of t b).slot cs
       → Walked (Has t) last b (cs ++ b ∷ [])
-  goes_on b cs f l w = cases (isGenesis b.parent b.parent_round.0) refl
+  goes_on b cs f l w = cases (is_genesis b.parent b.parent_round.0) refl
     where
-      cases : (g : Bool) → isGenesis b.parent b.parent_round.0 ≡ g → Walked (Has t) last b (cs ++ b ∷ [])
+      cases : (g : Bool) → is_genesis b.parent b.parent_round.0 ≡ g → Walked (Has t) last b (cs ++ b ∷ [])
       cases true g =
           let z : (parent_of t b).slot.round.0 ≡ 0 = ap (λ (p : Parent). p.slot.round.0) (parent-genesis t b g) in
           absurd (omega arith)
       cases false g = let h = parent-has t b g f in more (parent_of t b).slot g h.1 h.0 l w
 
-  walk_from : (n : ℕ) (b : Slot) (bs : List Slot) → walkFrom n t b last ≡ delivers bs → Walked (Has t) last b bs
-  unfolding walkFrom onParent
-  walk_from zero b bs e = no_walk _ bs e
-  walk_from (suc n) b bs e = far (ltb (last + 1) b.round.0) refl e (λ c cs. walk_from n c cs)
+  walk_from_lem : (n : ℕ) (b : Slot) (bs : List Slot) → walk_from n t b last ≡ delivers bs → Walked (Has t) last b bs
+  unfolding walk_from on_parent
+  walk_from_lem zero b bs e = no_walk _ bs e
+  walk_from_lem (suc n) b bs e = far (ltb (last + 1) b.round.0) refl e (λ c cs. walk_from_lem n c cs)
     where
       Rest : Type 0
-      Rest = (c : Slot) (cs : List Slot) → walkFrom n t c last ≡ delivers cs → Walked (Has t) last c cs
+      Rest = (c : Slot) (cs : List Slot) → walk_from n t c last ≡ delivers cs → Walked (Has t) last c cs
 
       above : (u : Bool) → ltb last (parent_of t b).slot.round.0 ≡ u → (parent_of t b).found ≡ true
-          → cond u (andNewer (walkFrom n t (parent_of t b).slot last) b) (delivers (b ∷ [])) ≡ delivers bs → Rest → Walked (Has t) last b bs
+          → cond u (and_newer (walk_from n t (parent_of t b).slot last) b) (delivers (b ∷ [])) ≡ delivers bs → Rest → Walked (Has t) last b bs
       above true l f e rest =
-          let x = newer-is (walkFrom n t (parent_of t b).slot last) b bs e in
+          let x = newer-is (walk_from n t (parent_of t b).slot last) b bs e in
           rw x.2 (goes_on b x.0 f (ltb-true _ _ l) (rest (parent_of t b).slot x.0 x.1))
       above false l f e rest = rw (one-is b bs e) (ends_at b f (ltb-false _ _ l))
 
       lower : (u : Bool) → (parent_of t b).found ≡ true
-          → cond u (cond (ltb last (parent_of t b).slot.round.0) (andNewer (walkFrom n t (parent_of t b).slot last) b) (delivers (b ∷ []))) (refused roundNotBelow) ≡ delivers bs
+          → cond u (cond (ltb last (parent_of t b).slot.round.0) (and_newer (walk_from n t (parent_of t b).slot last) b) (delivers (b ∷ []))) (refused round_not_below) ≡ delivers bs
           → Rest → Walked (Has t) last b bs
       lower true f e rest = above (ltb last (parent_of t b).slot.round.0) refl f e rest
       lower false f e rest = no_walk _ bs e
 
       there : (u : Bool) → (parent_of t b).found ≡ u
-          → cond u (cond (ltb (parent_of t b).slot.round.0 b.round.0) (cond (ltb last (parent_of t b).slot.round.0) (andNewer (walkFrom n t (parent_of t b).slot last) b) (delivers (b ∷ []))) (refused roundNotBelow)) (refused ancestorAbsent) ≡ delivers bs
+          → cond u (cond (ltb (parent_of t b).slot.round.0 b.round.0) (cond (ltb last (parent_of t b).slot.round.0) (and_newer (walk_from n t (parent_of t b).slot last) b) (delivers (b ∷ []))) (refused round_not_below)) (refused ancestor_absent) ≡ delivers bs
           → Rest → Walked (Has t) last b bs
       there true f e rest = lower (ltb (parent_of t b).slot.round.0 b.round.0) f e rest
       there false f e rest = no_walk _ bs e
 
-      far : (u : Bool) → ltb (last + 1) b.round.0 ≡ u → cond u (onParent b last (parent_of t b) (walkFrom n t (parent_of t b).slot last)) (delivers (b ∷ [])) ≡ delivers bs
+      far : (u : Bool) → ltb (last + 1) b.round.0 ≡ u → cond u (on_parent b last (parent_of t b) (walk_from n t (parent_of t b).slot last)) (delivers (b ∷ [])) ≡ delivers bs
           → Rest → Walked (Has t) last b bs
       far true l e rest = there (parent_of t b).found refl e rest
       far false l e rest = rw (one-is b bs e) (near {s = b} (omega (arith, ltb-false (last + 1) b.round.0 l)))
@@ -321,7 +321,7 @@ module _ (t : List Slot) (last : ℕ) where
   -- A walk that delivers goes over slots of the table.
   pub walk-slots : (b : Slot) (bs : List Slot) → walk_of t b last ≡ delivers bs → Walked (Has t) last b bs
   unfolding walk_of
-  walk-slots b bs e = walk_from (suc (length t)) b bs e
+  walk-slots b bs e = walk_from_lem (suc (length t)) b bs e
 
   -- ---- walks that deliver
 
@@ -332,11 +332,11 @@ module _ (t : List Slot) (last : ℕ) where
     pub next : last < (parent_of t s).slot.round.0 → P (parent_of t s).slot
 
   module _ (P : Slot → Type 0) (sure : (s : Slot) → P s → Sure P s) where
-    newer-delivers : (w : Walk) (b : Slot) → (cs : List Slot) × (w ≡ delivers cs) → (bs : List Slot) × (andNewer w b ≡ delivers bs)
+    newer-delivers : (w : Walk) (b : Slot) → (cs : List Slot) × (w ≡ delivers cs) → (bs : List Slot) × (and_newer w b ≡ delivers bs)
     newer-delivers w b k = (k.0 ++ b ∷ [], rw k.1 refl)
 
     delivers-from : (n : ℕ) (b : Slot) → b.round.0 < n → P b → (bs : List Slot) × (walk_of t b last ≡ delivers bs)
-    unfolding onParent
+    unfolding on_parent
     delivers-from zero b l k = absurd (omega arith)
     delivers-from (suc n) b l k =
         let s = sure b k in
@@ -346,7 +346,7 @@ module _ (t : List Slot) (last : ℕ) where
       where
         cases : (u v : Bool) → ltb last (parent_of t b).slot.round.0 ≡ v
             → (last < (parent_of t b).slot.round.0 → (cs : List Slot) × (walk_of t (parent_of t b).slot last ≡ delivers cs))
-            → (bs : List Slot) × (cond u (cond v (andNewer (walk_of t (parent_of t b).slot last) b) (delivers (b ∷ []))) (delivers (b ∷ [])) ≡ delivers bs)
+            → (bs : List Slot) × (cond u (cond v (and_newer (walk_of t (parent_of t b).slot last) b) (delivers (b ∷ []))) (delivers (b ∷ [])) ≡ delivers bs)
         cases true true e f = newer-delivers (walk_of t (parent_of t b).slot last) b (f (ltb-true _ _ e))
         cases true false e f = (b ∷ [], refl)
         cases false v e f = (b ∷ [], refl)
@@ -359,46 +359,46 @@ module _ (t : List Slot) (last : ℕ) where
 
 -- "30 | b0 or a walked parent absent", "31 | walked parent's round not below its child's"
 pub data Stopped (t : List Slot) (b : Slot) (last n : ℕ) : Type 0 where
-  no-b0 : n ≡ ancestorAbsent → (ancestorsOf t b).answer ≡ ancestorAbsent → Stopped t b last n
-  in-walk : (ancestorsOf t b).answer ≡ 0 → (ancestorsOf t b).b0.round.0 + 1 ≡ (ancestorsOf t b).b1.round.0 → last < (ancestorsOf t b).b0.round.0
-      → walk_of (stored t b) (ancestorsOf t b).b0 last ≡ refused n → Stopped t b last n
+  no-b0 : n ≡ ancestor_absent → (ancestors_of t b).answer ≡ ancestor_absent → Stopped t b last n
+  in-walk : (ancestors_of t b).answer ≡ 0 → (ancestors_of t b).b0.round.0 + 1 ≡ (ancestors_of t b).b1.round.0 → last < (ancestors_of t b).b0.round.0
+      → walk_of (stored t b) (ancestors_of t b).b0 last ≡ refused n → Stopped t b last n
 
-module _ (t : List Slot) (w : Work) (n : ℕ) (ne : n ≡ 0 → ⊥) (nw : n ≡ waitParent → ⊥) (nf : n ≡ tableFull → ⊥) where
+module _ (t : List Slot) (w : Work) (n : ℕ) (ne : n ≡ 0 → ⊥) (nw : n ≡ wait_parent → ⊥) (nf : n ≡ table_full → ⊥) where
   abbrev b : Slot
   b = w.block
 
   abbrev last : ℕ
   last = w.last.0
 
-  by-walk : (v : Walk) → (committedBy (ancestorsOf t b).b0 last v).answer ≡ n → v ≡ refused n
+  by-walk : (v : Walk) → (committed_by (ancestors_of t b).b0 last v).answer ≡ n → v ≡ refused n
   by-walk (refused k) e = ap refused e
   by-walk (delivers bs) e = absurd (ne (sym e))
 
-  by-commit : (x y : Bool) → isTwoChain (ancestorsOf t b).b0 (ancestorsOf t b).b1 ≡ x → ltb last (ancestorsOf t b).b0.round.0 ≡ y → (ancestorsOf t b).answer ≡ 0
-      → (cond x (cond y (committedBy (ancestorsOf t b).b0 last (walk_of (stored t b) (ancestorsOf t b).b0 last)) (noCommit last)) (noCommit last)).answer ≡ n → Stopped t b last n
-  unfolding isTwoChain
+  by-commit : (x y : Bool) → is_two_chain (ancestors_of t b).b0 (ancestors_of t b).b1 ≡ x → ltb last (ancestors_of t b).b0.round.0 ≡ y → (ancestors_of t b).answer ≡ 0
+      → (cond x (cond y (committed_by (ancestors_of t b).b0 last (walk_of (stored t b) (ancestors_of t b).b0 last)) (no_commit last)) (no_commit last)).answer ≡ n → Stopped t b last n
+  unfolding is_two_chain
   by-commit true true f g found e = in-walk found (eqb-true _ _ f) (ltb-true _ _ g) (by-walk _ e)
   by-commit true false f g found e = absurd (ne (sym e))
   by-commit false y f g found e = absurd (ne (sym e))
 
-  by-ancestors : (ancestorsOf t b).answer ≡ n → n ≡ ancestorAbsent
-  unfolding ancestorsOf
+  by-ancestors : (ancestors_of t b).answer ≡ n → n ≡ ancestor_absent
+  unfolding ancestors_of
   by-ancestors e = cases (parent_of t b).found (parent_of t (parent_of t b).slot).found e
     where
-      cases : (x y : Bool) → cond x (cond y 0 ancestorAbsent) waitParent ≡ n → n ≡ ancestorAbsent
+      cases : (x y : Bool) → cond x (cond y 0 ancestor_absent) wait_parent ≡ n → n ≡ ancestor_absent
       cases true true e = absurd (ne (sym e))
       cases true false e = sym e
       cases false y e = absurd (nw (sym e))
 
-  by-store : (x y : Bool) → eqb (ancestorsOf t b).answer 0 ≡ x
-      → (cond x (cond y (linkedOf (stored t b) b (ancestorsOf t b).b0 (ancestorsOf t b).b1 last) (answered tableFull t last [])) (answered (ancestorsOf t b).answer t last [])).answer ≡ n
+  by-store : (x y : Bool) → eqb (ancestors_of t b).answer 0 ≡ x
+      → (cond x (cond y (linked_of (stored t b) b (ancestors_of t b).b0 (ancestors_of t b).b1 last) (answered table_full t last [])) (answered (ancestors_of t b).answer t last [])).answer ≡ n
       → Stopped t b last n
-  unfolding linkedOf commitIf commitOf
-  by-store true true f e = by-commit (isTwoChain (ancestorsOf t b).b0 (ancestorsOf t b).b1) (ltb last (ancestorsOf t b).b0.round.0) refl refl (eqb-true _ 0 f) e
+  unfolding linked_of commit_if commit_of
+  by-store true true f e = by-commit (is_two_chain (ancestors_of t b).b0 (ancestors_of t b).b1) (ltb last (ancestors_of t b).b0.round.0) refl refl (eqb-true _ 0 f) e
   by-store true false f e = absurd (nf (sym e))
   by-store false y f e = let a = by-ancestors e in no-b0 a (e ∙ a)
 
   -- What a block met that is answered another number than 0, 2 and 28.
   pub settled-stopped : w.does ≡ block → (settled_of t w).answer ≡ n → Stopped t b last n
-  unfolding processedBy
-  settled-stopped d e = by-store (eqb (ancestorsOf t b).answer 0) (ltb (place_of t b) (length t)) refl (rw (settled-block t w d) at e)
+  unfolding processed_by
+  settled-stopped d e = by-store (eqb (ancestors_of t b).answer 0) (ltb (place_of t b) (length t)) refl (rw (settled-block t w d) at e)

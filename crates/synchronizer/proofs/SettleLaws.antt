@@ -21,7 +21,7 @@ use lib.Seq.{get_or-set_other, set_out}
 use borrow.Author.Tests.{lt-ltb, le-ltb, ltb-false, eq-eqb, ne_eqb, eqb-true, eqb-false, not-true, not-false}
 use Rattle.certificates.specs.declared.numbers.Place.{Place}
 use Rattle.certificates.specs.declared.numbers.Round.{Round}
-use Rattle.outputs.specs.Records.{Rec, enc, encAll, sync, cleanProposer, cleanMempool, commitSize, syncSize, cleanProposerSize, cleanMempoolSize}
+use Rattle.outputs.specs.Records.{Rec, enc, enc_all, sync, clean_proposer, clean_mempool, commit_size, sync_size, clean_proposer_size, clean_mempool_size}
 use Rattle.outputs.specs.Put.{Put, Wrote}
 use Rattle.outputs.proofs.Wrote.{all_none, wrote_none, wrote_one, wrote_then, wrote-more}
 use Rattle.synchronizer.specs.declared.table.Slot.{Slot}
@@ -31,12 +31,12 @@ use Rattle.synchronizer.specs.declared.commit.Walked.{Walked}
 use Rattle.synchronizer.specs.declared.commit.Chain.{Chain}
 use Rattle.synchronizer.specs.declared.settle.Work.{Work}
 use Rattle.synchronizer.specs.declared.settle.Settled.{Settled}
-use Rattle.certificates.specs.Error.{waitParent, tableFull}
-use Rattle.synchronizer.specs.Table.{slotAt, blank, place_of, stored, storeAnswer, cleared, genesis, parent_of, ancestorsOf, ancestorsBy}
-use Rattle.synchronizer.specs.Walk.{noCommit, commitOf, chainOf}
-use Rattle.synchronizer.specs.Settle.{Settlement, answered, isTwoChain, cleanOf, commitIf, commitRec, linkedOf, waitOf, asking, processedBy, processedOf, settled_of, cleanMost, settleMost, RoomFor, Settles}
+use Rattle.certificates.specs.Error.{wait_parent, table_full}
+use Rattle.synchronizer.specs.Table.{slot_at, blank, place_of, stored, store_answer, cleared, genesis, parent_of, ancestors_of, ancestors_by}
+use Rattle.synchronizer.specs.Walk.{no_commit, commit_of, chain_of}
+use Rattle.synchronizer.specs.Settle.{Settlement, answered, is_two_chain, clean_of, commit_if, commit_rec, linked_of, wait_of, asking, processed_by, processed_of, settled_of, clean_most, settle_most, RoomFor, Settles}
 use Rattle.synchronizer.specs.Settle as spec
-use Rattle.synchronizer.specs.Parts.{count_of, Admits, toCommit, committedOf, CommitsFit, Heads, settledBy, RoomToAsk, Asks}
+use Rattle.synchronizer.specs.Parts.{count_of, Admits, to_commit, committed_of, CommitsFit, Heads, settled_by, RoomToAsk, Asks}
 use Rattle.synchronizer.proofs.Lent.{by_cases}
 use Rattle.synchronizer.proofs.TableLaws.{stored-length, cleared-length}
 use Rattle.synchronizer.proofs.WalkLaws.{below, below-some, InTable, parent_in, commit-size, commit-chain, commit-genesis, commit-never-waits}
@@ -53,61 +53,61 @@ module _ (low high : ℕ) where
   pub next-not : high ≤ low → false ≡ eqb (low + 1) high
   next-not h = sym (ne_eqb (low + 1) high (λ k. omega arith))
 
-pub two-chain : (a : Ancestors) {t : Bool} → t ≡ eqb (a.b0.round.0 + 1) a.b1.round.0 → t ≡ isTwoChain a.b0 a.b1
-unfolding isTwoChain
+pub two-chain : (a : Ancestors) {t : Bool} → t ≡ eqb (a.b0.round.0 + 1) a.b1.round.0 → t ≡ is_two_chain a.b0 a.b1
+unfolding is_two_chain
 two-chain a e = e
 
 module _ (a : Ancestors) where
-  pub commits-b0 : {t : Bool} → a.answer ≡ 0 → t ≡ isTwoChain a.b0 a.b1 → t ≡ true → a.b0 ≡ toCommit a
+  pub commits-b0 : {t : Bool} → a.answer ≡ 0 → t ≡ is_two_chain a.b0 a.b1 → t ≡ true → a.b0 ≡ to_commit a
   commits-b0 z e y = rw (z, ← e, y)
 
-  pub commits-other : {t : Bool} {g : Slot} → a.answer ≡ 0 → t ≡ isTwoChain a.b0 a.b1 → t ≡ false → g ≡ genesis → g ≡ toCommit a
+  pub commits-other : {t : Bool} {g : Slot} → a.answer ≡ 0 → t ≡ is_two_chain a.b0 a.b1 → t ≡ false → g ≡ genesis → g ≡ to_commit a
   commits-other z e n h = rw (z, ← e, n) h
 
-  pub commits-none : {g : Slot} → (a.answer ≡ 0 → ⊥) → g ≡ genesis → g ≡ toCommit a
+  pub commits-none : {g : Slot} → (a.answer ≡ 0 → ⊥) → g ≡ genesis → g ≡ to_commit a
   commits-none n h = rw (ne_eqb _ _ n) h
 
-module _ (w : Work) (a : Ancestors) {before between : List ℕ} {mid : ℕ} {t : Bool} (e : t ≡ isTwoChain a.b0 a.b1)
-    (p : Put before w.at cleanProposerSize (enc (cleanProposer a.b0.digest a.b1.digest w.block.digest)) between mid) where
-  pub clean-both : {after : List ℕ} {next : ℕ} → t ≡ true → Put between mid cleanMempoolSize (enc (cleanMempool a.b0.round.0)) after next
-      → Wrote cleanMost (cleanOf a.b0 a.b1 w.block) before w.at after next
-  unfolding cleanOf
-  clean-both y q = rw (← e, y) (wrote_then (wrote_one (cleanProposer a.b0.digest a.b1.digest w.block.digest) p) (wrote_one (cleanMempool a.b0.round.0) q))
+module _ (w : Work) (a : Ancestors) {before between : List ℕ} {mid : ℕ} {t : Bool} (e : t ≡ is_two_chain a.b0 a.b1)
+    (p : Put before w.at clean_proposer_size (enc (clean_proposer a.b0.digest a.b1.digest w.block.digest)) between mid) where
+  pub clean-both : {after : List ℕ} {next : ℕ} → t ≡ true → Put between mid clean_mempool_size (enc (clean_mempool a.b0.round.0)) after next
+      → Wrote clean_most (clean_of a.b0 a.b1 w.block) before w.at after next
+  unfolding clean_of
+  clean-both y q = rw (← e, y) (wrote_then (wrote_one (clean_proposer a.b0.digest a.b1.digest w.block.digest) p) (wrote_one (clean_mempool a.b0.round.0) q))
 
-  pub clean-one : t ≡ false → Wrote cleanMost (cleanOf a.b0 a.b1 w.block) before w.at between mid
-  unfolding cleanOf
-  clean-one n = rw (← e, n) (wrote-more (wrote_one (cleanProposer a.b0.digest a.b1.digest w.block.digest) p) (omega arith))
+  pub clean-one : t ≡ false → Wrote clean_most (clean_of a.b0 a.b1 w.block) before w.at between mid
+  unfolding clean_of
+  clean-one n = rw (← e, n) (wrote-more (wrote_one (clean_proposer a.b0.digest a.b1.digest w.block.digest) p) (omega arith))
 
 module _ (w : Work) (a : Ancestors) (c : Walked) where
-  pub head-stored : {before after : List ℕ} {next : ℕ} → a.answer ≡ 0 → Wrote cleanMost (cleanOf a.b0 a.b1 w.block) before w.at after next
+  pub head-stored : {before after : List ℕ} {next : ℕ} → a.answer ≡ 0 → Wrote clean_most (clean_of a.b0 a.b1 w.block) before w.at after next
       → Heads w a c before (record { left = c.blocks; at = next; block = a.b0 }) after
   head-stored z p = record { left = refl; block = refl; bytes = rw z p }
 
   pub head-none : (before : List ℕ) → (a.answer ≡ 0 → ⊥) → Heads w a c before (record { left = c.blocks; at = w.at; block = a.b0 }) before
-  head-none before n = record { left = refl; block = refl; bytes = rw (ne_eqb _ _ n) (wrote_none cleanMost before w.at) }
+  head-none before n = record { left = refl; block = refl; bytes = rw (ne_eqb _ _ n) (wrote_none clean_most before w.at) }
 
-module _ (w : Work) (a : Ancestors) (c : Walked) (t : Chain) (at : ℕ) (e : at ≡ t.at + commitSize * t.left) where
-  pub by-refusal : (a.answer ≡ 0 → ⊥) → ◌≡◌ {A = Settled} (record { answer = a.answer; last = w.last; at = at }) (settledBy w a c t)
+module _ (w : Work) (a : Ancestors) (c : Walked) (t : Chain) (at : ℕ) (e : at ≡ t.at + commit_size * t.left) where
+  pub by-refusal : (a.answer ≡ 0 → ⊥) → ◌≡◌ {A = Settled} (record { answer = a.answer; last = w.last; at = at }) (settled_by w a c t)
   by-refusal n = rw (e, ne_eqb _ _ n)
 
-  pub by-commit : a.answer ≡ 0 → 0 < c.blocks → ◌≡◌ {A = Settled} (record { answer = c.answer; last = t.block.round; at = at }) (settledBy w a c t)
+  pub by-commit : a.answer ≡ 0 → 0 < c.blocks → ◌≡◌ {A = Settled} (record { answer = c.answer; last = t.block.round; at = at }) (settled_by w a c t)
   by-commit z h = rw (e, z, lt-ltb _ _ h)
 
-  pub by-none : a.answer ≡ 0 → c.blocks ≤ 0 → ◌≡◌ {A = Settled} (record { answer = c.answer; last = w.last; at = at }) (settledBy w a c t)
+  pub by-none : a.answer ≡ 0 → c.blocks ≤ 0 → ◌≡◌ {A = Settled} (record { answer = c.answer; last = w.last; at = at }) (settled_by w a c t)
   by-none z h = rw (e, z, le-ltb _ _ h)
 
-pub asks-room : (s : Settled) {k : ℕ} → RoomToAsk s k → s.answer ≡ waitParent → s.at + syncSize ≤ k
+pub asks-room : (s : Settled) {k : ℕ} → RoomToAsk s k → s.answer ≡ wait_parent → s.at + sync_size ≤ k
 asks-room s h z = h z
 
 module _ (w : Work) (s : Settled) where
-  pub asks-sync : {before after : List ℕ} {next : ℕ} → s.answer ≡ waitParent → Put before s.at syncSize (enc (sync w.block.parent w.block.digest w.author.0)) after next
+  pub asks-sync : {before after : List ℕ} {next : ℕ} → s.answer ≡ wait_parent → Put before s.at sync_size (enc (sync w.block.parent w.block.digest w.author.0)) after next
       → Asks w s before (record { answer = s.answer; last = s.last; at = next }) after
-  unfolding waitOf
+  unfolding wait_of
   asks-sync z p = record { answer = refl; last = refl; bytes = rw z (wrote_one (sync w.block.parent w.block.digest w.author.0) p) }
 
-  pub asks_none : (before : List ℕ) → (s.answer ≡ waitParent → ⊥) → Asks w s before s before
-  unfolding waitOf
-  asks_none before n = record { answer = refl; last = refl; bytes = rw (ne_eqb _ _ n) (wrote_none syncSize before s.at) }
+  pub asks_none : (before : List ℕ) → (s.answer ≡ wait_parent → ⊥) → Asks w s before s before
+  unfolding wait_of
+  asks_none before n = record { answer = refl; last = refl; bytes = rw (ne_eqb _ _ n) (wrote_none sync_size before s.at) }
 
 -- ---- at most as many COMMITs as slots
 
@@ -115,23 +115,23 @@ module _ (w : Work) (s : Settled) where
 other-slot : (t : List Slot) (k : ℕ) (b b0 b1 : Slot) → InTable t b0 → InTable t b1 → b0.round.0 + 1 ≡ b1.round.0 → below (set t k b) b0.round.0 < length (set t k b)
 other-slot t k b b0 b1 p q e =
     by_cases (eqb q.place k)
-    (λ s. let there : p.place ≡ q.place → ⊥ = λ same. let z : (slotAt t p.place).round.0 ≡ (slotAt t q.place).round.0 = ap (λ (i : ℕ). (slotAt t i).round.0) same in
+    (λ s. let there : p.place ≡ q.place → ⊥ = λ same. let z : (slot_at t p.place).round.0 ≡ (slot_at t q.place).round.0 = ap (λ (i : ℕ). (slot_at t i).round.0) same in
     let x : b0.round.0 ≡ b1.round.0 = ap (λ (u : Slot). u.round.0) p.is ∙ z ∙ sym (ap (λ (u : Slot). u.round.0) q.is) in omega arith in
-    let is : slotAt (set t k b) p.place ≡ b0 = get_or-set_other t k p.place b blank (λ x. there (x ∙ sym (eqb-true q.place k s))) ∙ sym p.is in
+    let is : slot_at (set t k b) p.place ≡ b0 = get_or-set_other t k p.place b blank (λ x. there (x ∙ sym (eqb-true q.place k s))) ∙ sym p.is in
     below-some (set t k b) p.place b0.round.0 (rw (length-set t k b) p.within) (rw is (omega arith)))
-    (λ s. let is : slotAt (set t k b) q.place ≡ b1 = get_or-set_other t k q.place b blank (eqb-false q.place k s) ∙ sym q.is in
+    (λ s. let is : slot_at (set t k b) q.place ≡ b1 = get_or-set_other t k q.place b blank (eqb-false q.place k s) ∙ sym q.is in
     below-some (set t k b) q.place b0.round.0 (rw (length-set t k b) q.within) (rw is (omega arith)))
 
 -- the ancestors that were found
-found-both : (p1 p0 : Parent) → (ancestorsBy p1 p0).answer ≡ 0 → (p1.found ≡ true) × (p0.found ≡ true)
+found-both : (p1 p0 : Parent) → (ancestors_by p1 p0).answer ≡ 0 → (p1.found ≡ true) × (p0.found ≡ true)
 found-both p1 p0 =
     by_cases p1.found
     (λ e. by_cases p0.found (λ f. rw (e, f) (λ _. (refl, refl))) (λ f. rw (e, f) (λ z. absurd (omega arith))))
     (λ e. rw e (λ z. absurd (omega arith)))
 
-pub commits-fit : (t : List Slot) (b : Slot) (last : ℕ) → (ancestorsOf t b).answer ≡ 0
-    → length (commitIf (stored t b) (ancestorsOf t b).b0 (ancestorsOf t b).b1 last).blocks ≤ length t
-unfolding ancestorsOf commitIf stored isTwoChain
+pub commits-fit : (t : List Slot) (b : Slot) (last : ℕ) → (ancestors_of t b).answer ≡ 0
+    → length (commit_if (stored t b) (ancestors_of t b).b0 (ancestors_of t b).b1 last).blocks ≤ length t
+unfolding ancestors_of commit_if stored is_two_chain
 commits-fit t b last e =
     let f = found-both (parent_of t b) (parent_of t (parent_of t b).slot) e in
     by_cases (eqb ((parent_of t (parent_of t b).slot).slot.round.0 + 1) (parent_of t b).slot.round.0)
@@ -148,14 +148,14 @@ commits-fit t b last e =
 -- ---- a stored block
 
 -- genesis is committed where b1 does not follow b0
-commit-if : (t : List Slot) (b0 b1 : Slot) (last : ℕ) → commitOf t (cond (isTwoChain b0 b1) b0 genesis) last ≡ commitIf t b0 b1 last
-unfolding commitIf
-commit-if t b0 b1 last = by_cases (isTwoChain b0 b1) (λ e. rw e) (λ e. rw e (commit-genesis t last))
+commit-if : (t : List Slot) (b0 b1 : Slot) (last : ℕ) → commit_of t (cond (is_two_chain b0 b1) b0 genesis) last ≡ commit_if t b0 b1 last
+unfolding commit_if
+commit-if t b0 b1 last = by_cases (is_two_chain b0 b1) (λ e. rw e) (λ e. rw e (commit-genesis t last))
 
 commit-if-chain : (t : List Slot) (b0 b1 : Slot) (last : ℕ)
-    → ((commitIf t b0 b1 last).blocks ≡ chainOf (length (commitIf t b0 b1 last).blocks) t b0) × ((commitIf t b0 b1 last).last ≡ cond (ltb 0 (length (commitIf t b0 b1 last).blocks)) b0.round.0 last)
-unfolding commitIf chainOf
-commit-if-chain t b0 b1 last = by_cases (isTwoChain b0 b1) (λ e. rw e (commit-chain t b0 last)) (λ e. rw e (refl, refl))
+    → ((commit_if t b0 b1 last).blocks ≡ chain_of (length (commit_if t b0 b1 last).blocks) t b0) × ((commit_if t b0 b1 last).last ≡ cond (ltb 0 (length (commit_if t b0 b1 last).blocks)) b0.round.0 last)
+unfolding commit_if chain_of
+commit-if-chain t b0 b1 last = by_cases (is_two_chain b0 b1) (λ e. rw e (commit-chain t b0 last)) (λ e. rw e (refl, refl))
 
 -- a round of one of two
 round-of : (t : Bool) (x y : Round) → (cond t x y).0 ≡ cond t x.0 y.0
@@ -163,27 +163,27 @@ round-of true x y = refl
 round-of false x y = refl
 
 module _ (t : List Slot) (w : Work) (a : Ancestors) {before mid : List ℕ} (room : CommitsFit t w a (length before)) (same : length mid ≡ length before)
-    {b : Slot} {l : Round} {c : Walked} {ch : Chain} (e₁ : b ≡ toCommit a) (e₂ : l ≡ w.last) (e₃ : c ≡ count_of (commitOf t b l.0))
+    {b : Slot} {l : Round} {c : Walked} {ch : Chain} (e₁ : b ≡ to_commit a) (e₂ : l ≡ w.last) (e₃ : c ≡ count_of (commit_of t b l.0))
     (head : Heads w a c before ch mid) where
-  counts : c ≡ count_of (commitOf t (toCommit a) w.last.0)
+  counts : c ≡ count_of (commit_of t (to_commit a) w.last.0)
   counts = rw (e₃, e₁, e₂)
 
   -- the COMMITs have room
-  pub commit-room : ch.at + commitSize * ch.left ≤ length mid
+  pub commit-room : ch.at + commit_size * ch.left ≤ length mid
   commit-room = omega (arith, room.0, room.1, head.left, ap (λ (x : Walked). x.blocks) counts, head.bytes.room)
 
-  module _ {after : List ℕ} {r : Settled} (wrote : Wrote (commitSize * ch.left) (map commitRec (chainOf ch.left t ch.block)) mid ch.at after (ch.at + commitSize * ch.left))
-      (e : r ≡ settledBy w a c ch) where
+  module _ {after : List ℕ} {r : Settled} (wrote : Wrote (commit_size * ch.left) (map commit_rec (chain_of ch.left t ch.block)) mid ch.at after (ch.at + commit_size * ch.left))
+      (e : r ≡ settled_by w a c ch) where
     -- the block is stored
-    linked : a.answer ≡ 0 → Settles (linkedOf t w.block a.b0 a.b1 w.last.0) (settleMost (length t)) before w.at r t after
-    unfolding linkedOf
+    linked : a.answer ≡ 0 → Settles (linked_of t w.block a.b0 a.b1 w.last.0) (settle_most (length t)) before w.at r t after
+    unfolding linked_of
     linked z =
         let chain = commit-if-chain t a.b0 a.b1 w.last.0 in
-        let is : c ≡ count_of (commitIf t a.b0 a.b1 w.last.0) = counts ∙ rw (z, commit-if) in
-        let n : c.blocks ≡ length (commitIf t a.b0 a.b1 w.last.0).blocks = ap (λ (x : Walked). x.blocks) is in
-        let blocks : chainOf ch.left t ch.block ≡ (commitIf t a.b0 a.b1 w.last.0).blocks = rw (head.left, n, head.block) (sym chain.0) in
+        let is : c ≡ count_of (commit_if t a.b0 a.b1 w.last.0) = counts ∙ rw (z, commit-if) in
+        let n : c.blocks ≡ length (commit_if t a.b0 a.b1 w.last.0).blocks = ap (λ (x : Walked). x.blocks) is in
+        let blocks : chain_of ch.left t ch.block ≡ (commit_if t a.b0 a.b1 w.last.0).blocks = rw (head.left, n, head.block) (sym chain.0) in
         let few : ch.left ≤ length t = omega (arith, room.1, head.left, ap (λ (x : Walked). x.blocks) counts) in
-        let clean : Wrote cleanMost (cleanOf a.b0 a.b1 w.block) before w.at mid ch.at = rw z at head.bytes in
+        let clean : Wrote clean_most (clean_of a.b0 a.b1 w.block) before w.at mid ch.at = rw z at head.bytes in
         rw (e, z) (record {
           answer = ap (λ (x : Walked). x.answer) is;
           last = round-of (ltb 0 c.blocks) ch.block.round w.last ∙ rw (head.block, n) (sym chain.1);
@@ -192,28 +192,28 @@ module _ (t : List Slot) (w : Work) (a : Ancestors) {before mid : List ℕ} (roo
         })
 
     -- it is not
-    unstored : eqb a.answer 0 ≡ false → Settles (answered a.answer t w.last.0 []) (settleMost (length t)) before w.at r t after
-    unfolding chainOf
+    unstored : eqb a.answer 0 ≡ false → Settles (answered a.answer t w.last.0 []) (settle_most (length t)) before w.at r t after
+    unfolding chain_of
     unstored n =
-        let is : c ≡ count_of (noCommit w.last.0) = counts ∙ rw (n, commit-genesis) in
+        let is : c ≡ count_of (no_commit w.last.0) = counts ∙ rw (n, commit-genesis) in
         let none : ch.left ≡ 0 = head.left ∙ ap (λ (x : Walked). x.blocks) is in
-        let clean : Wrote cleanMost [] before w.at mid ch.at = rw n at head.bytes in
+        let clean : Wrote clean_most [] before w.at mid ch.at = rw n at head.bytes in
         let rest : Wrote 0 [] mid ch.at after (ch.at + 0) = rw none at wrote in
         rw (e, n, none) (record { answer = refl; last = refl; slots = refl; bytes = wrote-more (wrote_then clean rest) (omega arith) })
 
-    pub commit-done : Settles (committedOf t w a) (settleMost (length t)) before w.at r t after
-    unfolding committedOf
+    pub commit-done : Settles (committed_of t w a) (settle_most (length t)) before w.at r t after
+    unfolding committed_of
     commit-done = by_cases (eqb a.answer 0) (λ z. rw z (linked (eqb-true _ _ z))) (λ n. rw n (unstored n))
 
 -- ---- a block's ancestors and its store
 
-module _ (t : List Slot) (b : Slot) {a : Ancestors} (found : a ≡ ancestorsOf t b) {s : Bool} (short : s ≡ not (eqb a.answer 0)) where
+module _ (t : List Slot) (b : Slot) {a : Ancestors} (found : a ≡ ancestors_of t b) {s : Bool} (short : s ≡ not (eqb a.answer 0)) where
   pub admit-short : s ≡ true → Admits t b a t
   admit-short y =
       let n : eqb a.answer 0 ≡ false = not-true _ (sym short ∙ y) in
       record { answer = rw (← found, n); b0 = ap (λ (x : Ancestors). x.b0) found; b1 = ap (λ (x : Ancestors). x.b1) found; slots = rw n }
 
-  pub admit-store : {n : ℕ} {t' : List Slot} {r : Ancestors} → s ≡ false → (n ≡ storeAnswer (place_of t b) (length t)) × (t' ≡ stored t b)
+  pub admit-store : {n : ℕ} {t' : List Slot} {r : Ancestors} → s ≡ false → (n ≡ store_answer (place_of t b) (length t)) × (t' ≡ stored t b)
       → r ≡ record { answer = n; b0 = a.b0; b1 = a.b1 } → Admits t b r t'
   unfolding stored
   admit-store {n} {t'} go said e =
@@ -225,13 +225,13 @@ module _ (t : List Slot) (b : Slot) {a : Ancestors} (found : a ≡ ancestorsOf t
       after =
           by_cases (ltb (place_of t b) (length t))
           (λ p. let z : n ≡ 0 = said.0 ∙ rw p in rw z said.1)
-          (λ p. let z : n ≡ tableFull = said.0 ∙ rw p in rw z (said.1 ∙ set_out t (place_of t b) b (ltb-false _ _ p)))
+          (λ p. let z : n ≡ table_full = said.0 ∙ rw p in rw z (said.1 ∙ set_out t (place_of t b) b (ltb-false _ _ p)))
 
 -- where both answer 0
 first-zero : (x n : ℕ) → cond (eqb x 0) n x ≡ 0 → (x ≡ 0) × (n ≡ 0)
 first-zero x n = by_cases (eqb x 0) (λ y. rw y (λ h. (eqb-true _ _ y, h))) (λ y. rw y (λ h. absurd (eqb-false _ _ y h)))
 
-store-room : (i n : ℕ) → storeAnswer i n ≡ 0 → ltb i n ≡ true
+store-room : (i n : ℕ) → store_answer i n ≡ 0 → ltb i n ≡ true
 store-room i n = by_cases (ltb i n) (λ e. rw e (λ _. refl)) (λ e. rw e (λ z. absurd (omega arith)))
 
 module _ (t : List Slot) (w : Work) {a : Ancestors} {t' : List Slot} (got : Admits t w.block a t') where
@@ -240,86 +240,86 @@ module _ (t : List Slot) (w : Work) {a : Ancestors} {t' : List Slot} (got : Admi
   admitted-length = by_cases (eqb a.answer 0) (λ z. ap length got.slots ∙ rw z (stored-length t w.block)) (λ z. ap length got.slots ∙ rw z)
 
   -- where the block was stored, its ancestors were there and so was a place
-  stored-then : a.answer ≡ 0 → ((ancestorsOf t w.block).answer ≡ 0) × (ltb (place_of t w.block) (length t) ≡ true)
+  stored-then : a.answer ≡ 0 → ((ancestors_of t w.block).answer ≡ 0) × (ltb (place_of t w.block) (length t) ≡ true)
   stored-then z =
-      let f = first-zero (ancestorsOf t w.block).answer (storeAnswer (place_of t w.block) (length t)) (sym got.answer ∙ z) in
+      let f = first-zero (ancestors_of t w.block).answer (store_answer (place_of t w.block) (length t)) (sym got.answer ∙ z) in
       (f.0, store-room (place_of t w.block) (length t) f.1)
 
-  pub process-room : (k : ℕ) → w.at + settleMost (length t) ≤ k → CommitsFit t' w a k
+  pub process-room : (k : ℕ) → w.at + settle_most (length t) ≤ k → CommitsFit t' w a k
   process-room k h = (rw admitted-length h, by_cases (eqb a.answer 0) fits (λ n. rw (n, commit-genesis) (omega arith)))
     where
-      fits : eqb a.answer 0 ≡ true → length (commitOf t' (toCommit a) w.last.0).blocks ≤ length t'
+      fits : eqb a.answer 0 ≡ true → length (commit_of t' (to_commit a) w.last.0).blocks ≤ length t'
       fits z =
           let u : t' ≡ stored t w.block = got.slots ∙ rw z in
           rw (z, commit-if, got.b0, got.b1, u, stored-length) (commits-fit t w.block w.last.0 (stored-then (eqb-true _ _ z)).0)
 
-  pub process-done : {r : Settled} {before after : List ℕ} → Settles (committedOf t' w a) (settleMost (length t')) before w.at r t' after
-      → Settles (processedOf t w) (settleMost (length t)) before w.at r t' after
-  unfolding committedOf processedBy
-  process-done {r} {before} {after} p = by_cases (eqb a.answer 0) kept (λ n. by_cases (eqb (ancestorsOf t w.block).answer 0) (full n) (short n))
+  pub process-done : {r : Settled} {before after : List ℕ} → Settles (committed_of t' w a) (settle_most (length t')) before w.at r t' after
+      → Settles (processed_of t w) (settle_most (length t)) before w.at r t' after
+  unfolding committed_of processed_by
+  process-done {r} {before} {after} p = by_cases (eqb a.answer 0) kept (λ n. by_cases (eqb (ancestors_of t w.block).answer 0) (full n) (short n))
     where
       -- the block was stored
-      kept : eqb a.answer 0 ≡ true → Settles (processedBy t w (ancestorsOf t w.block)) (settleMost (length t)) before w.at r t' after
+      kept : eqb a.answer 0 ≡ true → Settles (processed_by t w (ancestors_of t w.block)) (settle_most (length t)) before w.at r t' after
       kept z =
           let y = stored-then (eqb-true _ _ z) in
           let u : t' ≡ stored t w.block = got.slots ∙ rw z in
           rw (y.0, y.1, ← u, ← got.b0, ← got.b1, ← admitted-length) (rw z at p)
 
       -- there was no place
-      full : eqb a.answer 0 ≡ false → eqb (ancestorsOf t w.block).answer 0 ≡ true → Settles (processedBy t w (ancestorsOf t w.block)) (settleMost (length t)) before w.at r t' after
+      full : eqb a.answer 0 ≡ false → eqb (ancestors_of t w.block).answer 0 ≡ true → Settles (processed_by t w (ancestors_of t w.block)) (settle_most (length t)) before w.at r t' after
       full n y =
           by_cases (ltb (place_of t w.block) (length t))
           (λ q. let z : a.answer ≡ 0 = got.answer ∙ rw (y, q) in absurd (eqb-false a.answer 0 n z))
-          (λ q. let z : a.answer ≡ tableFull = got.answer ∙ rw (y, q) in
-          let d : Settles (answered a.answer t' w.last.0 []) (settleMost (length t')) before w.at r t' after = rw n at p in
+          (λ q. let z : a.answer ≡ table_full = got.answer ∙ rw (y, q) in
+          let d : Settles (answered a.answer t' w.last.0 []) (settle_most (length t')) before w.at r t' after = rw n at p in
           rw (y, q) (record { answer = d.answer ∙ z; last = d.last; slots = got.slots ∙ rw n; bytes = rw admitted-length at d.bytes }))
 
       -- an ancestor is absent
-      short : eqb a.answer 0 ≡ false → eqb (ancestorsOf t w.block).answer 0 ≡ false → Settles (processedBy t w (ancestorsOf t w.block)) (settleMost (length t)) before w.at r t' after
+      short : eqb a.answer 0 ≡ false → eqb (ancestors_of t w.block).answer 0 ≡ false → Settles (processed_by t w (ancestors_of t w.block)) (settle_most (length t)) before w.at r t' after
       short n y =
-          let z : a.answer ≡ (ancestorsOf t w.block).answer = got.answer ∙ rw y in
-          let d : Settles (answered a.answer t' w.last.0 []) (settleMost (length t')) before w.at r t' after = rw n at p in
+          let z : a.answer ≡ (ancestors_of t w.block).answer = got.answer ∙ rw y in
+          let d : Settles (answered a.answer t' w.last.0 []) (settle_most (length t')) before w.at r t' after = rw n at p in
           rw y (record { answer = d.answer ∙ z; last = d.last; slots = got.slots ∙ rw n; bytes = rw admitted-length at d.bytes })
 
 -- ---- a block that waits
 
 -- a stored block does not
-linked-never-waits : (t : List Slot) (b b0 b1 : Slot) (last : ℕ) → (linkedOf t b b0 b1 last).answer ≡ waitParent → ⊥
-unfolding linkedOf commitIf
-linked-never-waits t b b0 b1 last = by_cases (isTwoChain b0 b1) (λ e. rw e (commit-never-waits t b0 last)) (λ e. rw e (λ z. omega arith))
+linked-never-waits : (t : List Slot) (b b0 b1 : Slot) (last : ℕ) → (linked_of t b b0 b1 last).answer ≡ wait_parent → ⊥
+unfolding linked_of commit_if
+linked-never-waits t b b0 b1 last = by_cases (is_two_chain b0 b1) (λ e. rw e (commit-never-waits t b0 last)) (λ e. rw e (λ z. omega arith))
 
 -- so where one waits, nothing was written
-pub processed-waits : (t : List Slot) (w : Work) → (processedOf t w).answer ≡ waitParent → (processedOf t w).outs ≡ []
-unfolding processedBy
+pub processed-waits : (t : List Slot) (w : Work) → (processed_of t w).answer ≡ wait_parent → (processed_of t w).outs ≡ []
+unfolding processed_by
 processed-waits t w =
-    by_cases (eqb (ancestorsOf t w.block).answer 0)
+    by_cases (eqb (ancestors_of t w.block).answer 0)
     (λ e. by_cases (ltb (place_of t w.block) (length t))
-    (λ f. rw (e, f) (λ z. absurd (linked-never-waits (stored t w.block) w.block (ancestorsOf t w.block).b0 (ancestorsOf t w.block).b1 w.last.0 z)))
+    (λ f. rw (e, f) (λ z. absurd (linked-never-waits (stored t w.block) w.block (ancestors_of t w.block).b0 (ancestors_of t w.block).b1 w.last.0 z)))
     (λ f. rw (e, f) (λ z. refl)))
     (λ e. rw e (λ z. refl))
 
 -- a block that does not wait asks for nothing
-pub wait-none : (w : Work) (n : ℕ) → eqb n waitParent ≡ false → waitOf w n ≡ []
-unfolding waitOf
+pub wait-none : (w : Work) (n : ℕ) → eqb n wait_parent ≡ false → wait_of w n ≡ []
+unfolding wait_of
 wait-none w n e = rw e
 
-asking-linked : (w : Work) (t : List Slot) (b b0 b1 : Slot) (last : ℕ) → asking w (linkedOf t b b0 b1 last) ≡ linkedOf t b b0 b1 last
-asking-linked w t b b0 b1 last = rw (wait-none w (linkedOf t b b0 b1 last).answer (ne_eqb _ _ (linked-never-waits t b b0 b1 last)), append-nil)
+asking-linked : (w : Work) (t : List Slot) (b b0 b1 : Slot) (last : ℕ) → asking w (linked_of t b b0 b1 last) ≡ linked_of t b b0 b1 last
+asking-linked w t b b0 b1 last = rw (wait-none w (linked_of t b b0 b1 last).answer (ne_eqb _ _ (linked-never-waits t b b0 b1 last)), append-nil)
 
 wrote_nothing : {k at next : ℕ} {outs : List Rec} {before after : List ℕ} → outs ≡ [] → Wrote k outs before at after next → next ≡ at
 wrote_nothing {at = at} {next = next} e p =
-    let none : next ≡ at + length (encAll []) = rw e at p.place in
+    let none : next ≡ at + length (enc_all []) = rw e at p.place in
     omega (arith, none, ap length all_none)
 
-module _ (t : List Slot) (w : Work) {before mid : List ℕ} {s : Settled} {t' : List Slot} (p : Settles (processedOf t w) (settleMost (length t)) before w.at s t' mid) where
+module _ (t : List Slot) (w : Work) {before mid : List ℕ} {s : Settled} {t' : List Slot} (p : Settles (processed_of t w) (settle_most (length t)) before w.at s t' mid) where
   -- where it waits, the place is the first one
-  waits-at : s.answer ≡ waitParent → s.at ≡ w.at
+  waits-at : s.answer ≡ wait_parent → s.at ≡ w.at
   waits-at e = wrote_nothing (processed-waits t w (sym p.answer ∙ e)) p.bytes
 
-  pub ask-room : w.at + settleMost (length t) ≤ length before → length mid ≡ length before → RoomToAsk s (length mid)
+  pub ask-room : w.at + settle_most (length t) ≤ length before → length mid ≡ length before → RoomToAsk s (length mid)
   ask-room h same e = omega (arith, waits-at e)
 
-  pub ask-done : {r : Settled} {after : List ℕ} → Asks w s mid r after → Settles (asking w (processedOf t w)) (settleMost (length t)) before w.at r t' after
+  pub ask-done : {r : Settled} {after : List ℕ} → Asks w s mid r after → Settles (asking w (processed_of t w)) (settle_most (length t)) before w.at r t' after
   ask-done {r} {after} q =
       let all = wrote_then p.bytes q.bytes in
       record {
@@ -329,31 +329,31 @@ module _ (t : List Slot) (w : Work) {before mid : List ℕ} {s : Settled} {t' : 
         bytes = rw (← p.answer) (record { place = all.place; stored = all.stored; room = room });
       }
     where
-      room : r.at ≤ w.at + settleMost (length t)
+      room : r.at ≤ w.at + settle_most (length t)
       room =
-          by_cases (eqb s.answer waitParent)
+          by_cases (eqb s.answer wait_parent)
           (λ e. omega (arith, q.bytes.room, waits-at (eqb-true _ _ e)))
           (λ e. omega (arith, p.bytes.room, wrote_nothing (wait-none w s.answer e) q.bytes))
 
 -- ---- an event
 
 module _ (t : List Slot) (w : Work) {s : Bool} (block : s ≡ eqb w.does spec.block) where
-  pub settle-room : (k : ℕ) → s ≡ true → RoomFor w (length t) k → w.at + settleMost (length t) ≤ k
+  pub settle-room : (k : ℕ) → s ≡ true → RoomFor w (length t) k → w.at + settle_most (length t) ≤ k
   settle-room k y h = h (eqb-true w.does spec.block (sym block ∙ y))
 
-  pub settle-block : {r : Settled} {t' : List Slot} {before after : List ℕ} → s ≡ true → Settles (asking w (processedOf t w)) (settleMost (length t)) before w.at r t' after
-      → Settles (settled_of t w) (settleMost (length t)) before w.at r t' after
+  pub settle-block : {r : Settled} {t' : List Slot} {before after : List ℕ} → s ≡ true → Settles (asking w (processed_of t w)) (settle_most (length t)) before w.at r t' after
+      → Settles (settled_of t w) (settle_most (length t)) before w.at r t' after
   unfolding settled_of
   settle-block y p = rw (← block, y) p
 
   module _ (other : s ≡ false) {c : Bool} (clear : c ≡ eqb w.does spec.clear) {r : Settled} (e : r ≡ record { answer = 0; last = w.last; at = w.at }) (before : List ℕ) where
-    pub settle-clear : {t' : List Slot} → c ≡ true → t' ≡ cleared t → Settles (settled_of t w) (settleMost (length t)) before w.at r t' before
+    pub settle-clear : {t' : List Slot} → c ≡ true → t' ≡ cleared t → Settles (settled_of t w) (settle_most (length t)) before w.at r t' before
     unfolding settled_of
-    settle-clear y p = rw (e, ← block, other, ← clear, y) (record { answer = refl; last = refl; slots = p; bytes = wrote_none (settleMost (length t)) before w.at })
+    settle-clear y p = rw (e, ← block, other, ← clear, y) (record { answer = refl; last = refl; slots = p; bytes = wrote_none (settle_most (length t)) before w.at })
 
-    pub settle-idle : c ≡ false → Settles (settled_of t w) (settleMost (length t)) before w.at r t before
+    pub settle-idle : c ≡ false → Settles (settled_of t w) (settle_most (length t)) before w.at r t before
     unfolding settled_of
-    settle-idle n = rw (e, ← block, other, ← clear, n) (record { answer = refl; last = refl; slots = refl; bytes = wrote_none (settleMost (length t)) before w.at })
+    settle-idle n = rw (e, ← block, other, ← clear, n) (record { answer = refl; last = refl; slots = refl; bytes = wrote_none (settle_most (length t)) before w.at })
 
 -- ---- what a caller asks of a settlement
 
@@ -366,52 +366,52 @@ module _ (t : List Slot) (w : Work) where
   unfolding settled_of
   settled-clear e = rw e
 
-  pub settled-block : w.does ≡ spec.block → settled_of t w ≡ asking w (processedOf t w)
+  pub settled-block : w.does ≡ spec.block → settled_of t w ≡ asking w (processed_of t w)
   unfolding settled_of
   settled-block e = rw e
 
   -- a block whose ancestor is absent, one that finds no place, and one that is stored
-  pub processed-short : ((ancestorsOf t w.block).answer ≡ 0 → ⊥)
-      → processedOf t w ≡ answered (ancestorsOf t w.block).answer t w.last.0 []
-  unfolding processedBy
+  pub processed-short : ((ancestors_of t w.block).answer ≡ 0 → ⊥)
+      → processed_of t w ≡ answered (ancestors_of t w.block).answer t w.last.0 []
+  unfolding processed_by
   processed-short n = rw (ne_eqb _ _ n)
 
-  module _ (z : (ancestorsOf t w.block).answer ≡ 0) where
-    pub processed-full : length t ≤ place_of t w.block → processedOf t w ≡ answered tableFull t w.last.0 []
-    unfolding processedBy
+  module _ (z : (ancestors_of t w.block).answer ≡ 0) where
+    pub processed-full : length t ≤ place_of t w.block → processed_of t w ≡ answered table_full t w.last.0 []
+    unfolding processed_by
     processed-full h = rw (z, le-ltb _ _ h)
 
     pub processed-stored : place_of t w.block < length t
-        → processedOf t w ≡ linkedOf (stored t w.block) w.block (ancestorsOf t w.block).b0 (ancestorsOf t w.block).b1 w.last.0
-    unfolding processedBy
+        → processed_of t w ≡ linked_of (stored t w.block) w.block (ancestors_of t w.block).b0 (ancestors_of t w.block).b1 w.last.0
+    unfolding processed_by
     processed-stored h = rw (z, lt-ltb _ _ h)
 
   -- what the event gives then: SYNC only where the parent is absent
   module _ (e : w.does ≡ spec.block) where
-    pub settled-short : ((ancestorsOf t w.block).answer ≡ 0 → ⊥)
-        → settled_of t w ≡ answered (ancestorsOf t w.block).answer t w.last.0 (waitOf w (ancestorsOf t w.block).answer)
+    pub settled-short : ((ancestors_of t w.block).answer ≡ 0 → ⊥)
+        → settled_of t w ≡ answered (ancestors_of t w.block).answer t w.last.0 (wait_of w (ancestors_of t w.block).answer)
     settled-short n = settled-block e ∙ ap (asking w) (processed-short n)
 
-    pub settled-full : (ancestorsOf t w.block).answer ≡ 0 → length t ≤ place_of t w.block → settled_of t w ≡ answered tableFull t w.last.0 []
-    unfolding waitOf
+    pub settled-full : (ancestors_of t w.block).answer ≡ 0 → length t ≤ place_of t w.block → settled_of t w ≡ answered table_full t w.last.0 []
+    unfolding wait_of
     settled-full z h = settled-block e ∙ ap (asking w) (processed-full z h)
 
-    pub settled-stored : (ancestorsOf t w.block).answer ≡ 0 → place_of t w.block < length t
-        → settled_of t w ≡ linkedOf (stored t w.block) w.block (ancestorsOf t w.block).b0 (ancestorsOf t w.block).b1 w.last.0
+    pub settled-stored : (ancestors_of t w.block).answer ≡ 0 → place_of t w.block < length t
+        → settled_of t w ≡ linked_of (stored t w.block) w.block (ancestors_of t w.block).b0 (ancestors_of t w.block).b1 w.last.0
     settled-stored z h =
         settled-block e ∙ ap (asking w) (processed-stored z h)
-        ∙ asking-linked w (stored t w.block) w.block (ancestorsOf t w.block).b0 (ancestorsOf t w.block).b1 w.last.0
+        ∙ asking-linked w (stored t w.block) w.block (ancestors_of t w.block).b0 (ancestors_of t w.block).b1 w.last.0
 
 -- the table is as long as before
-linked-length : (t : List Slot) (b b0 b1 : Slot) (last : ℕ) → (linkedOf t b b0 b1 last).table ≡ t
-unfolding linkedOf
+linked-length : (t : List Slot) (b b0 b1 : Slot) (last : ℕ) → (linked_of t b b0 b1 last).table ≡ t
+unfolding linked_of
 linked-length t b b0 b1 last = refl
 
 pub settled-length : (t : List Slot) (w : Work) → length (settled_of t w).table ≡ length t
-unfolding settled_of processedBy
+unfolding settled_of processed_by
 settled-length t w =
     by_cases (eqb w.does spec.block)
-    (λ e. by_cases (eqb (ancestorsOf t w.block).answer 0)
+    (λ e. by_cases (eqb (ancestors_of t w.block).answer 0)
     (λ f. by_cases (ltb (place_of t w.block) (length t))
     (λ g. rw (e, f, g, linked-length) (stored-length t w.block))
     (λ g. rw (e, f, g)))
@@ -432,7 +432,7 @@ module _ (t : List Slot) (does : ℕ) (block : Slot) (author : Place) (last : Ro
   pub settled-anywhere : (at at' : ℕ)
       → settled_of t (record { does = does; block = block; author = author; last = last; at = at })
       ≡ settled_of t (record { does = does; block = block; author = author; last = last; at = at' })
-  unfolding settled_of processedBy waitOf
+  unfolding settled_of processed_by wait_of
   settled-anywhere at at' = refl
 
 -- without a block nothing is written

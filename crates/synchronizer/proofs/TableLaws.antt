@@ -20,15 +20,15 @@ use borrow.Author.Tests.{lt-ltb}
 use lib.ListN.{length, drop, set, replicate, length-set, length-replicate}
 use lib.Seq.{drop-cons, drop-length}
 use Rattle.certificates.specs.declared.numbers.Hash.{Hash}
-use Rattle.certificates.specs.Numbers.{sameHash}
-use Rattle.certificates.specs.Messages.{isGenesis}
+use Rattle.certificates.specs.Numbers.{same_hash}
+use Rattle.certificates.specs.Messages.{is_genesis}
 use Rattle.synchronizer.specs.declared.table.Slot.{Slot}
 use Rattle.synchronizer.specs.declared.table.Want.{Want}
 use Rattle.synchronizer.specs.declared.ancestors.Parent.{Parent}
 use Rattle.synchronizer.specs.declared.ancestors.Ancestors.{Ancestors}
-use Rattle.certificates.specs.Error.{waitParent, ancestorAbsent}
-use Rattle.synchronizer.specs.Table.{blank, slotAt, fits, lowest, wantAny, wantFree, wantDigest, place_of, stored, storeAnswer, cleared, genesis, parent_of, ancestorsBy, ancestorsOf}
-use Rattle.synchronizer.specs.Parts.{wantParent, parent_by, placed}
+use Rattle.certificates.specs.Error.{wait_parent, ancestor_absent}
+use Rattle.synchronizer.specs.Table.{blank, slot_at, fits, lowest, want_any, want_free, want_digest, place_of, stored, store_answer, cleared, genesis, parent_of, ancestors_by, ancestors_of}
+use Rattle.synchronizer.specs.Parts.{want_parent, parent_by, placed}
 use Rattle.synchronizer.proofs.Lent.{by_cases}
 
 -- ---- the test of a slot
@@ -42,7 +42,7 @@ module _ (s : Slot) (w : Want) where
   unfolding fits
   fits-free a f = rw (a, f)
 
-  pub fits-digest : {r : Bool} → w.any ≡ false → w.free ≡ false → s.used ≡ true → r ≡ sameHash s.digest w.digest → r ≡ fits s w
+  pub fits-digest : {r : Bool} → w.any ≡ false → w.free ≡ false → s.used ≡ true → r ≡ same_hash s.digest w.digest → r ≡ fits s w
   unfolding fits
   fits-digest a f u e = rw (a, f, u) e
 
@@ -52,7 +52,7 @@ module _ (s : Slot) (w : Want) where
 
 -- ---- the answers of single functions
 
-module _ (b s : Slot) {t : Bool} (e : t ≡ isGenesis b.parent b.parent_round.0) where
+module _ (b s : Slot) {t : Bool} (e : t ≡ is_genesis b.parent b.parent_round.0) where
   pub by-genesis : {g : Slot} → g ≡ genesis → t ≡ true → ◌≡◌ {A = Parent} (record { found = true; slot = g }) (parent_by b s)
   by-genesis h y = rw (← e, y, h)
 
@@ -60,18 +60,18 @@ module _ (b s : Slot) {t : Bool} (e : t ≡ isGenesis b.parent b.parent_round.0)
   by-slot n = rw (← e, n)
 
 module _ (p1 p0 : Parent) where
-  pub no-parent : p1.found ≡ false → ◌≡◌ {A = Ancestors} (record { answer = waitParent; b0 = p0.slot; b1 = p1.slot }) (ancestorsBy p1 p0)
+  pub no-parent : p1.found ≡ false → ◌≡◌ {A = Ancestors} (record { answer = wait_parent; b0 = p0.slot; b1 = p1.slot }) (ancestors_by p1 p0)
   no-parent n = rw n
 
-  pub no-grandparent : p1.found ≡ true → p0.found ≡ false → ◌≡◌ {A = Ancestors} (record { answer = ancestorAbsent; b0 = p0.slot; b1 = p1.slot }) (ancestorsBy p1 p0)
+  pub no-grandparent : p1.found ≡ true → p0.found ≡ false → ◌≡◌ {A = Ancestors} (record { answer = ancestor_absent; b0 = p0.slot; b1 = p1.slot }) (ancestors_by p1 p0)
   no-grandparent y n = rw (y, n)
 
-  pub both_found : p1.found ≡ true → p0.found ≡ true → ◌≡◌ {A = Ancestors} (record { answer = 0; b0 = p0.slot; b1 = p1.slot }) (ancestorsBy p1 p0)
+  pub both_found : p1.found ≡ true → p0.found ≡ true → ◌≡◌ {A = Ancestors} (record { answer = 0; b0 = p0.slot; b1 = p1.slot }) (ancestors_by p1 p0)
   both_found y z = rw (y, z)
 
 -- ---- a place of the table
 
-pub slot-past : (t : List Slot) (i : ℕ) → length t ≤ i → slotAt t i ≡ blank
+pub slot-past : (t : List Slot) (i : ℕ) → length t ≤ i → slot_at t i ≡ blank
 slot-past [] i l = refl
 slot-past (s ∷ t) zero l = absurd (not-suc-le-zero l)
 slot-past (s ∷ t) (suc i) l = slot-past t i (le_of_suc-le-suc l)
@@ -84,14 +84,14 @@ pub passed_none : (t : List Slot) (w : Want) → Passed t w 0
 passed_none t w = sym (zero-add (lowest t w))
 
 -- the next one does not fit
-pub passed-more : (t : List Slot) (w : Want) (i : ℕ) → i < length t → Passed t w i → fits (slotAt t i) w ≡ false → Passed t w (i + 1)
+pub passed-more : (t : List Slot) (w : Want) (i : ℕ) → i < length t → Passed t w i → fits (slot_at t i) w ≡ false → Passed t w (i + 1)
 unfolding lowest
 passed-more t w i l p e =
     p ∙ ap (λ (u : List Slot). i + lowest u w) (drop-cons t i blank l) ∙ ap (λ (z : Bool). i + cond z 0 (suc (lowest (drop (suc i) t) w))) e ∙ add-suc i (lowest (drop (suc i) t) w)
     ∙ sym (suc-add i (lowest (drop (suc i) t) w)) ∙ ap (λ (k : ℕ). k + lowest (drop k t) w) (sym (add-one i))
 
 -- the next one fits
-pub passed-hit : (t : List Slot) (w : Want) (i : ℕ) → i < length t → Passed t w i → fits (slotAt t i) w ≡ true → i ≡ lowest t w
+pub passed-hit : (t : List Slot) (w : Want) (i : ℕ) → i < length t → Passed t w i → fits (slot_at t i) w ≡ true → i ≡ lowest t w
 unfolding lowest
 passed-hit t w i l p e = sym (p ∙ ap (λ (u : List Slot). i + lowest u w) (drop-cons t i blank l) ∙ ap (λ (z : Bool). i + cond z 0 (suc (lowest (drop (suc i) t) w))) e ∙ add-zero i)
 
@@ -103,36 +103,36 @@ passed-all t w i l p = sym (p ∙ ap (λ (u : List Slot). i + lowest u w) (ap (�
 -- ---- what was found
 
 -- a used slot with a digest
-fits-is-used : (s : Slot) (h : Hash) → fits s (wantDigest h) ≡ true → s.used ≡ true
+fits-is-used : (s : Slot) (h : Hash) → fits s (want_digest h) ≡ true → s.used ≡ true
 unfolding fits
 fits-is-used s h = by_cases s.used (λ u. rw u (λ _. refl)) (λ u. rw u (λ z. z))
 
-pub found-used : (t : List Slot) (h : Hash) → (slotAt t (lowest t (wantDigest h))).used ≡ ltb (lowest t (wantDigest h)) (length t)
+pub found-used : (t : List Slot) (h : Hash) → (slot_at t (lowest t (want_digest h))).used ≡ ltb (lowest t (want_digest h)) (length t)
 unfolding lowest
 found-used [] h = refl
 found-used (s ∷ t) h =
-    by_cases (fits s (wantDigest h))
+    by_cases (fits s (want_digest h))
     (λ e. rw e (fits-is-used s h e ∙ sym (lt-ltb 0 (suc (length t)) (omega arith))))
-    (λ e. rw e (found-used t h ∙ sym (leb-suc-suc (suc (lowest t (wantDigest h))) (length t))))
+    (λ e. rw e (found-used t h ∙ sym (leb-suc-suc (suc (lowest t (want_digest h))) (length t))))
 
-pub parent-found : (t : List Slot) (b : Slot) {w : Want} {i : ℕ} {s : Slot} {p : Parent} → w ≡ wantParent b → i ≡ lowest t w → s ≡ slotAt t i → p ≡ parent_by b s → p ≡ parent_of t b
+pub parent-found : (t : List Slot) (b : Slot) {w : Want} {i : ℕ} {s : Slot} {p : Parent} → w ≡ want_parent b → i ≡ lowest t w → s ≡ slot_at t i → p ≡ parent_by b s → p ≡ parent_of t b
 unfolding parent_of
 parent-found t b {w} {i} {s} {p} e₁ e₂ e₃ e₄ =
-    by_cases (isGenesis b.parent b.parent_round.0)
+    by_cases (is_genesis b.parent b.parent_round.0)
     (λ g. rw (e₄, g))
-    (λ g. let k : i ≡ lowest t (wantDigest b.parent) = rw (e₂, e₁, g) in
-    let u : s ≡ slotAt t (lowest t (wantDigest b.parent)) = rw (e₃, k) in
-    rw (e₄, g, u) (λ j. record { found = found-used t b.parent j; slot = slotAt t (lowest t (wantDigest b.parent)) }))
+    (λ g. let k : i ≡ lowest t (want_digest b.parent) = rw (e₂, e₁, g) in
+    let u : s ≡ slot_at t (lowest t (want_digest b.parent)) = rw (e₃, k) in
+    rw (e₄, g, u) (λ j. record { found = found-used t b.parent j; slot = slot_at t (lowest t (want_digest b.parent)) }))
 
-pub ancestors-found : (t : List Slot) (b : Slot) {p1 p0 : Parent} {b1 : Slot} {a : Ancestors} → p1 ≡ parent_of t b → b1 ≡ p1.slot → p0 ≡ parent_of t b1 → a ≡ ancestorsBy p1 p0 → a ≡ ancestorsOf t b
-unfolding ancestorsOf
+pub ancestors-found : (t : List Slot) (b : Slot) {p1 p0 : Parent} {b1 : Slot} {a : Ancestors} → p1 ≡ parent_of t b → b1 ≡ p1.slot → p0 ≡ parent_of t b1 → a ≡ ancestors_by p1 p0 → a ≡ ancestors_of t b
+unfolding ancestors_of
 ancestors-found t b e₁ e₂ e₃ e₄ = rw (e₄, e₃, e₂, e₁)
 
-pub place_found : (t : List Slot) (b : Slot) {n found free at : ℕ} {w v : Want} → n ≡ length t → w ≡ wantDigest b.digest → found ≡ lowest t w → v ≡ cond (ltb found n) wantAny wantFree
+pub place_found : (t : List Slot) (b : Slot) {n found free at : ℕ} {w v : Want} → n ≡ length t → w ≡ want_digest b.digest → found ≡ lowest t w → v ≡ cond (ltb found n) want_any want_free
     → free ≡ lowest t v → at ≡ placed found free n → at ≡ place_of t b
 unfolding place_of
 place_found t b e₁ e₂ e₃ e₄ e₅ e₆ =
-    by_cases (ltb (lowest t (wantDigest b.digest)) (length t))
+    by_cases (ltb (lowest t (want_digest b.digest)) (length t))
     (λ g. rw (e₆, e₃, e₂, e₁, g))
     (λ g. rw (e₆, e₅, e₄, e₃, e₂, e₁, g))
 
@@ -153,8 +153,8 @@ unfolding cleared
 swept_all t i e p = rw (p, e, drop-length) (append-nil (replicate (length t) blank))
 
 -- a store, from its place
-pub stored-found : (t : List Slot) (b : Slot) {at n r : ℕ} {zs : List Slot} → at ≡ place_of t b → n ≡ length t → zs ≡ set t at b → r ≡ storeAnswer at n
-    → (r ≡ storeAnswer (place_of t b) (length t)) × (zs ≡ stored t b)
+pub stored-found : (t : List Slot) (b : Slot) {at n r : ℕ} {zs : List Slot} → at ≡ place_of t b → n ≡ length t → zs ≡ set t at b → r ≡ store_answer at n
+    → (r ≡ store_answer (place_of t b) (length t)) × (zs ≡ stored t b)
 unfolding stored
 stored-found t b e₁ e₂ e₃ e₄ = (rw (e₄, e₁, e₂), rw (e₃, e₁))
 

@@ -26,7 +26,7 @@ use denote.Slice.{slice_val}
 use denote.Triple.Statement.{Contract, Triple}
 use denote.Triple.Spec.{triple_of}
 use Rattle.certificates.specs.declared.numbers.Round.{Round}
-use Rattle.outputs.specs.Records.{enc, commitSize}
+use Rattle.outputs.specs.Records.{enc, commit_size}
 use Rattle.outputs.specs.Put.{Put, Wrote}
 use Rattle.synchronizer.specs.declared.table.Slot.{Slot}
 use Rattle.synchronizer.specs.declared.table.Want.{Want}
@@ -37,11 +37,11 @@ use Rattle.synchronizer.specs.declared.commit.Walked.{Walked}
 use Rattle.synchronizer.specs.declared.commit.Chain.{Chain}
 use Rattle.synchronizer.specs.declared.settle.Work.{Work}
 use Rattle.synchronizer.specs.declared.settle.Settled.{Settled}
-use Rattle.synchronizer.specs.Table.{blank, slotAt, fits, lowest, wantAny, wantFree, wantDigest, place_of, stored, storeAnswer, cleared, genesis, parent_of, ancestorsBy, ancestorsOf}
-use Rattle.synchronizer.specs.Walk.{commitOf, chainOf}
+use Rattle.synchronizer.specs.Table.{blank, slot_at, fits, lowest, want_any, want_free, want_digest, place_of, stored, store_answer, cleared, genesis, parent_of, ancestors_by, ancestors_of}
+use Rattle.synchronizer.specs.Walk.{commit_of, chain_of}
 use Rattle.synchronizer.specs.Settle as spec
-use Rattle.synchronizer.specs.Settle.{commitRec, processedOf, settled_of, cleanMost, settleMost, RoomFor, Settles}
-use Rattle.synchronizer.specs.Parts.{wantParent, parent_by, placed, setOut, walkOn, count_of, Admits, toCommit, committedOf, settledBy, CommitsFit, Heads, RoomToAsk, Asks}
+use Rattle.synchronizer.specs.Settle.{commit_rec, processed_of, settled_of, clean_most, settle_most, RoomFor, Settles}
+use Rattle.synchronizer.specs.Parts.{want_parent, parent_by, placed, set_out, walk_on, count_of, Admits, to_commit, committed_of, settled_by, CommitsFit, Heads, RoomToAsk, Asks}
 use Rattle.synchronizer.proofs.Lent.{Gives, AsShr, AsMut, at_name, use-plain, use-one, use-two}
 use Rattle.synchronizer.proofs.Row.{slot, want, parent, ancestors, trail, count, chain, work, settled, round, slot-makes, want-makes, parent-makes, ancestors-makes, trail-makes, count-makes, chain-makes, work-makes, settled-makes, round-makes}
 use Rattle.synchronizer.specs.contracts.table.empty as empty-fn
@@ -286,15 +286,15 @@ module _ {M : Type 1} {𝓤 : Ura M} (𝓛 : Logic 𝓤) (mem : Memory → SProp
         (known ((tt, tt, tt, (s, (w, tt)), (s-val ∷ [], (w-val ∷ [], tt))), tt))
 
     pub wanted-use : Triple 𝓤 (𝓣.C #synchronizer·table·wanted) WantedMet → (s : Slot) (s-val : Val) → Is slot s (s-val ∷ [])
-        → Gives 𝓛 𝓣.C #synchronizer·table·wanted (s-val ∷ []) (‵ ftrue) (λ z (r : Want). (r ≡ wantDigest s.digest) × Is want r (z ∷ [])) (λ _. ‵ ftrue)
+        → Gives 𝓛 𝓣.C #synchronizer·table·wanted (s-val ∷ []) (‵ ftrue) (λ z (r : Want). (r ≡ want_digest s.digest) × Is want r (z ∷ [])) (λ _. ‵ ftrue)
     wanted-use known s s-val s-is =
-        use-plain 𝓛 fm #synchronizer·table·wanted (s-val ∷ []) (slot ∷ []) (slot-makes 𝓛, tt) (s, tt) (s-val ∷ [], tt) (s-is, tt) want (emp 𝓤) (id⊢ 𝓤 (emp 𝓤)) 1 (λ r. r ≡ wantDigest s.digest)
+        use-plain 𝓛 fm #synchronizer·table·wanted (s-val ∷ []) (slot ∷ []) (slot-makes 𝓛, tt) (s, tt) (s-val ∷ [], tt) (s-is, tt) want (emp 𝓤) (id⊢ 𝓤 (emp 𝓤)) 1 (λ r. r ≡ want_digest s.digest)
         (known ((tt, tt, tt, (s, tt), (s-val ∷ [], tt)), tt))
 
     pub wanted-free-use : Triple 𝓤 (𝓣.C #synchronizer·table·wanted-free) WantedFreeMet → (i : ℕ) (i-val : Val) → Is usize i (i-val ∷ []) → (n : ℕ) (n-val : Val) → Is usize n (n-val ∷ [])
-        → Gives 𝓛 𝓣.C #synchronizer·table·wanted-free (i-val ∷ n-val ∷ []) (‵ ftrue) (λ z (r : Want). (r ≡ cond (ltb i n) wantAny wantFree) × Is want r (z ∷ [])) (λ _. ‵ ftrue)
+        → Gives 𝓛 𝓣.C #synchronizer·table·wanted-free (i-val ∷ n-val ∷ []) (‵ ftrue) (λ z (r : Want). (r ≡ cond (ltb i n) want_any want_free) × Is want r (z ∷ [])) (λ _. ‵ ftrue)
     wanted-free-use known i i-val i-is n n-val n-is =
-        use-plain 𝓛 fm #synchronizer·table·wanted-free (i-val ∷ n-val ∷ []) (usize ∷ usize ∷ []) (uint_Makes 𝓛 w64, (uint_Makes 𝓛 w64, tt)) (i, (n, tt)) (i-val ∷ [], (n-val ∷ [], tt)) (i-is, (n-is, tt)) want (emp 𝓤) (id⊢ 𝓤 (emp 𝓤)) 2 (λ r. r ≡ cond (ltb i n) wantAny wantFree)
+        use-plain 𝓛 fm #synchronizer·table·wanted-free (i-val ∷ n-val ∷ []) (usize ∷ usize ∷ []) (uint_Makes 𝓛 w64, (uint_Makes 𝓛 w64, tt)) (i, (n, tt)) (i-val ∷ [], (n-val ∷ [], tt)) (i-is, (n-is, tt)) want (emp 𝓤) (id⊢ 𝓤 (emp 𝓤)) 2 (λ r. r ≡ cond (ltb i n) want_any want_free)
         (known ((tt, tt, tt, (i, (n, tt)), (i-val ∷ [], (n-val ∷ [], tt))), tt))
 
     pub place-use : Triple 𝓤 (𝓣.C #synchronizer·table·place) PlaceMet → (i : ℕ) (i-val : Val) → Is usize i (i-val ∷ []) → (j : ℕ) (j-val : Val) → Is usize j (j-val ∷ []) → (n : ℕ) (n-val : Val) → Is usize n (n-val ∷ [])
@@ -304,15 +304,15 @@ module _ {M : Type 1} {𝓤 : Ura M} (𝓛 : Logic 𝓤) (mem : Memory → SProp
         (known ((tt, tt, tt, (i, (j, (n, tt))), (i-val ∷ [], (j-val ∷ [], (n-val ∷ [], tt)))), tt))
 
     pub stored-at-use : Triple 𝓤 (𝓣.C #synchronizer·table·stored-at) StoredAtMet → (i : ℕ) (i-val : Val) → Is usize i (i-val ∷ []) → (n : ℕ) (n-val : Val) → Is usize n (n-val ∷ [])
-        → Gives 𝓛 𝓣.C #synchronizer·table·stored-at (i-val ∷ n-val ∷ []) (‵ ftrue) (λ z (r : ℕ). (r ≡ storeAnswer i n) × Is u16 r (z ∷ [])) (λ _. ‵ ftrue)
+        → Gives 𝓛 𝓣.C #synchronizer·table·stored-at (i-val ∷ n-val ∷ []) (‵ ftrue) (λ z (r : ℕ). (r ≡ store_answer i n) × Is u16 r (z ∷ [])) (λ _. ‵ ftrue)
     stored-at-use known i i-val i-is n n-val n-is =
-        use-plain 𝓛 fm #synchronizer·table·stored-at (i-val ∷ n-val ∷ []) (usize ∷ usize ∷ []) (uint_Makes 𝓛 w64, (uint_Makes 𝓛 w64, tt)) (i, (n, tt)) (i-val ∷ [], (n-val ∷ [], tt)) (i-is, (n-is, tt)) u16 (emp 𝓤) (id⊢ 𝓤 (emp 𝓤)) 2 (λ r. r ≡ storeAnswer i n)
+        use-plain 𝓛 fm #synchronizer·table·stored-at (i-val ∷ n-val ∷ []) (usize ∷ usize ∷ []) (uint_Makes 𝓛 w64, (uint_Makes 𝓛 w64, tt)) (i, (n, tt)) (i-val ∷ [], (n-val ∷ [], tt)) (i-is, (n-is, tt)) u16 (emp 𝓤) (id⊢ 𝓤 (emp 𝓤)) 2 (λ r. r ≡ store_answer i n)
         (known ((tt, tt, tt, (i, (n, tt)), (i-val ∷ [], (n-val ∷ [], tt))), tt))
 
     pub wanted-parent-use : Triple 𝓤 (𝓣.C #synchronizer·ancestors·wanted-parent) WantedParentMet → (s : Slot) (s-val : Val) → Is slot s (s-val ∷ [])
-        → Gives 𝓛 𝓣.C #synchronizer·ancestors·wanted-parent (s-val ∷ []) (‵ ftrue) (λ z (r : Want). (r ≡ wantParent s) × Is want r (z ∷ [])) (λ _. ‵ ftrue)
+        → Gives 𝓛 𝓣.C #synchronizer·ancestors·wanted-parent (s-val ∷ []) (‵ ftrue) (λ z (r : Want). (r ≡ want_parent s) × Is want r (z ∷ [])) (λ _. ‵ ftrue)
     wanted-parent-use known s s-val s-is =
-        use-plain 𝓛 fm #synchronizer·ancestors·wanted-parent (s-val ∷ []) (slot ∷ []) (slot-makes 𝓛, tt) (s, tt) (s-val ∷ [], tt) (s-is, tt) want (emp 𝓤) (id⊢ 𝓤 (emp 𝓤)) 1 (λ r. r ≡ wantParent s)
+        use-plain 𝓛 fm #synchronizer·ancestors·wanted-parent (s-val ∷ []) (slot ∷ []) (slot-makes 𝓛, tt) (s, tt) (s-val ∷ [], tt) (s-is, tt) want (emp 𝓤) (id⊢ 𝓤 (emp 𝓤)) 1 (λ r. r ≡ want_parent s)
         (known ((tt, tt, tt, (s, tt), (s-val ∷ [], tt)), tt))
 
     pub parent-by-use : Triple 𝓤 (𝓣.C #synchronizer·ancestors·parent-by) ParentByMet → (b : Slot) (b-val : Val) → Is slot b (b-val ∷ []) → (s : Slot) (s-val : Val) → Is slot s (s-val ∷ [])
@@ -328,15 +328,15 @@ module _ {M : Type 1} {𝓤 : Ura M} (𝓛 : Logic 𝓤) (mem : Memory → SProp
         (known ((tt, tt, tt, (p, tt), (p-val ∷ [], tt)), tt))
 
     pub ancestors-by-use : Triple 𝓤 (𝓣.C #synchronizer·ancestors·ancestors-by) AncestorsByMet → (p : Parent) (p-val : Val) → Is parent p (p-val ∷ []) → (q : Parent) (q-val : Val) → Is parent q (q-val ∷ [])
-        → Gives 𝓛 𝓣.C #synchronizer·ancestors·ancestors-by (p-val ∷ q-val ∷ []) (‵ ftrue) (λ z (r : Ancestors). (r ≡ ancestorsBy p q) × Is ancestors r (z ∷ [])) (λ _. ‵ ftrue)
+        → Gives 𝓛 𝓣.C #synchronizer·ancestors·ancestors-by (p-val ∷ q-val ∷ []) (‵ ftrue) (λ z (r : Ancestors). (r ≡ ancestors_by p q) × Is ancestors r (z ∷ [])) (λ _. ‵ ftrue)
     ancestors-by-use known p p-val p-is q q-val q-is =
-        use-plain 𝓛 fm #synchronizer·ancestors·ancestors-by (p-val ∷ q-val ∷ []) (parent ∷ parent ∷ []) (parent-makes 𝓛, (parent-makes 𝓛, tt)) (p, (q, tt)) (p-val ∷ [], (q-val ∷ [], tt)) (p-is, (q-is, tt)) ancestors (emp 𝓤) (id⊢ 𝓤 (emp 𝓤)) 2 (λ r. r ≡ ancestorsBy p q)
+        use-plain 𝓛 fm #synchronizer·ancestors·ancestors-by (p-val ∷ q-val ∷ []) (parent ∷ parent ∷ []) (parent-makes 𝓛, (parent-makes 𝓛, tt)) (p, (q, tt)) (p-val ∷ [], (q-val ∷ [], tt)) (p-is, (q-is, tt)) ancestors (emp 𝓤) (id⊢ 𝓤 (emp 𝓤)) 2 (λ r. r ≡ ancestors_by p q)
         (known ((tt, tt, tt, (p, (q, tt)), (p-val ∷ [], (q-val ∷ [], tt))), tt))
 
     pub set-out-use : Triple 𝓤 (𝓣.C #synchronizer·commit·set-out) SetOutMet → (s : Slot) (s-val : Val) → Is slot s (s-val ∷ []) → (l : Round) (l-val : Val) → Is round l (l-val ∷ [])
-        → Gives 𝓛 𝓣.C #synchronizer·commit·set-out (s-val ∷ l-val ∷ []) (‵ ftrue) (λ z (r : Trail). (r ≡ setOut s l) × Is trail r (z ∷ [])) (λ _. ‵ ftrue)
+        → Gives 𝓛 𝓣.C #synchronizer·commit·set-out (s-val ∷ l-val ∷ []) (‵ ftrue) (λ z (r : Trail). (r ≡ set_out s l) × Is trail r (z ∷ [])) (λ _. ‵ ftrue)
     set-out-use known s s-val s-is l l-val l-is =
-        use-plain 𝓛 fm #synchronizer·commit·set-out (s-val ∷ l-val ∷ []) (slot ∷ round ∷ []) (slot-makes 𝓛, (round-makes 𝓛, tt)) (s, (l, tt)) (s-val ∷ [], (l-val ∷ [], tt)) (s-is, (l-is, tt)) trail (emp 𝓤) (id⊢ 𝓤 (emp 𝓤)) 2 (λ r. r ≡ setOut s l)
+        use-plain 𝓛 fm #synchronizer·commit·set-out (s-val ∷ l-val ∷ []) (slot ∷ round ∷ []) (slot-makes 𝓛, (round-makes 𝓛, tt)) (s, (l, tt)) (s-val ∷ [], (l-val ∷ [], tt)) (s-is, (l-is, tt)) trail (emp 𝓤) (id⊢ 𝓤 (emp 𝓤)) 2 (λ r. r ≡ set_out s l)
         (known ((tt, tt, tt, (s, (l, tt)), (s-val ∷ [], (l-val ∷ [], tt))), tt))
 
     pub goes-on-use : Triple 𝓤 (𝓣.C #synchronizer·commit·goes-on) GoesOnMet → (t : Trail) (t-val : Val) → Is trail t (t-val ∷ [])
@@ -352,9 +352,9 @@ module _ {M : Type 1} {𝓤 : Ura M} (𝓛 : Logic 𝓤) (mem : Memory → SProp
         (known ((tt, tt, tt, (t, tt), (t-val ∷ [], tt)), tt))
 
     pub walk-on-use : Triple 𝓤 (𝓣.C #synchronizer·commit·walk-on) WalkOnMet → (t : Trail) (t-val : Val) → Is trail t (t-val ∷ []) → (p : Parent) (p-val : Val) → Is parent p (p-val ∷ []) → t.blocks + 1 < 2 ^ 64
-        → Gives 𝓛 𝓣.C #synchronizer·commit·walk-on (t-val ∷ p-val ∷ []) (‵ ftrue) (λ z (r : Trail). (r ≡ walkOn t p) × Is trail r (z ∷ [])) (λ _. ‵ ftrue)
+        → Gives 𝓛 𝓣.C #synchronizer·commit·walk-on (t-val ∷ p-val ∷ []) (‵ ftrue) (λ z (r : Trail). (r ≡ walk_on t p) × Is trail r (z ∷ [])) (λ _. ‵ ftrue)
     walk-on-use known t t-val t-is p p-val p-is pre =
-        use-plain 𝓛 fm #synchronizer·commit·walk-on (t-val ∷ p-val ∷ []) (trail ∷ parent ∷ []) (trail-makes 𝓛, (parent-makes 𝓛, tt)) (t, (p, tt)) (t-val ∷ [], (p-val ∷ [], tt)) (t-is, (p-is, tt)) trail (fact 𝓤 (t.blocks + 1 < 2 ^ 64)) (fact_i 𝓤 (t.blocks + 1 < 2 ^ 64) (emp 𝓤) pre) 2 (λ r. r ≡ walkOn t p)
+        use-plain 𝓛 fm #synchronizer·commit·walk-on (t-val ∷ p-val ∷ []) (trail ∷ parent ∷ []) (trail-makes 𝓛, (parent-makes 𝓛, tt)) (t, (p, tt)) (t-val ∷ [], (p-val ∷ [], tt)) (t-is, (p-is, tt)) trail (fact 𝓤 (t.blocks + 1 < 2 ^ 64)) (fact_i 𝓤 (t.blocks + 1 < 2 ^ 64) (emp 𝓤) pre) 2 (λ r. r ≡ walk_on t p)
         (known ((tt, tt, tt, (t, (p, tt)), (t-val ∷ [], (p-val ∷ [], tt))), tt))
 
     pub counted-use : Triple 𝓤 (𝓣.C #synchronizer·commit·counted) CountedMet → (t : Trail) (t-val : Val) → Is trail t (t-val ∷ [])
@@ -424,28 +424,28 @@ module _ {M : Type 1} {𝓤 : Ura M} (𝓛 : Logic 𝓤) (mem : Memory → SProp
         (known ((tt, tt, tt, (a, (n, tt)), (a-val ∷ [], (n-val ∷ [], tt))), tt))
 
     pub to-commit-use : Triple 𝓤 (𝓣.C #synchronizer·settle·to-commit) ToCommitMet → (a : Ancestors) (a-val : Val) → Is ancestors a (a-val ∷ [])
-        → Gives 𝓛 𝓣.C #synchronizer·settle·to-commit (a-val ∷ []) (‵ ftrue) (λ z (r : Slot). (r ≡ toCommit a) × Is slot r (z ∷ [])) (λ _. ‵ ftrue)
+        → Gives 𝓛 𝓣.C #synchronizer·settle·to-commit (a-val ∷ []) (‵ ftrue) (λ z (r : Slot). (r ≡ to_commit a) × Is slot r (z ∷ [])) (λ _. ‵ ftrue)
     to-commit-use known a a-val a-is =
-        use-plain 𝓛 fm #synchronizer·settle·to-commit (a-val ∷ []) (ancestors ∷ []) (ancestors-makes 𝓛, tt) (a, tt) (a-val ∷ [], tt) (a-is, tt) slot (emp 𝓤) (id⊢ 𝓤 (emp 𝓤)) 1 (λ r. r ≡ toCommit a)
+        use-plain 𝓛 fm #synchronizer·settle·to-commit (a-val ∷ []) (ancestors ∷ []) (ancestors-makes 𝓛, tt) (a, tt) (a-val ∷ [], tt) (a-is, tt) slot (emp 𝓤) (id⊢ 𝓤 (emp 𝓤)) 1 (λ r. r ≡ to_commit a)
         (known ((tt, tt, tt, (a, tt), (a-val ∷ [], tt)), tt))
 
-    pub settled-by-use : Triple 𝓤 (𝓣.C #synchronizer·settle·settled-by) SettledByMet → (w : Work) (w-val : Val) → Is work w (w-val ∷ []) → (a : Ancestors) (a-val : Val) → Is ancestors a (a-val ∷ []) → (k : Walked) (k-val : Val) → Is count k (k-val ∷ []) → (c : Chain) (c-val : Val) → Is chain c (c-val ∷ []) → c.at + commitSize * c.left < 2 ^ 64
-        → Gives 𝓛 𝓣.C #synchronizer·settle·settled-by (w-val ∷ a-val ∷ k-val ∷ c-val ∷ []) (‵ ftrue) (λ z (r : Settled). (r ≡ settledBy w a k c) × Is settled r (z ∷ [])) (λ _. ‵ ftrue)
+    pub settled-by-use : Triple 𝓤 (𝓣.C #synchronizer·settle·settled-by) SettledByMet → (w : Work) (w-val : Val) → Is work w (w-val ∷ []) → (a : Ancestors) (a-val : Val) → Is ancestors a (a-val ∷ []) → (k : Walked) (k-val : Val) → Is count k (k-val ∷ []) → (c : Chain) (c-val : Val) → Is chain c (c-val ∷ []) → c.at + commit_size * c.left < 2 ^ 64
+        → Gives 𝓛 𝓣.C #synchronizer·settle·settled-by (w-val ∷ a-val ∷ k-val ∷ c-val ∷ []) (‵ ftrue) (λ z (r : Settled). (r ≡ settled_by w a k c) × Is settled r (z ∷ [])) (λ _. ‵ ftrue)
     settled-by-use known w w-val w-is a a-val a-is k k-val k-is c c-val c-is pre =
-        use-plain 𝓛 fm #synchronizer·settle·settled-by (w-val ∷ a-val ∷ k-val ∷ c-val ∷ []) (work ∷ ancestors ∷ count ∷ chain ∷ []) (work-makes 𝓛, (ancestors-makes 𝓛, (count-makes 𝓛, (chain-makes 𝓛, tt)))) (w, (a, (k, (c, tt)))) (w-val ∷ [], (a-val ∷ [], (k-val ∷ [], (c-val ∷ [], tt)))) (w-is, (a-is, (k-is, (c-is, tt)))) settled (fact 𝓤 (c.at + commitSize * c.left < 2 ^ 64)) (fact_i 𝓤 (c.at + commitSize * c.left < 2 ^ 64) (emp 𝓤) pre) 4 (λ r. r ≡ settledBy w a k c)
+        use-plain 𝓛 fm #synchronizer·settle·settled-by (w-val ∷ a-val ∷ k-val ∷ c-val ∷ []) (work ∷ ancestors ∷ count ∷ chain ∷ []) (work-makes 𝓛, (ancestors-makes 𝓛, (count-makes 𝓛, (chain-makes 𝓛, tt)))) (w, (a, (k, (c, tt)))) (w-val ∷ [], (a-val ∷ [], (k-val ∷ [], (c-val ∷ [], tt)))) (w-is, (a-is, (k-is, (c-is, tt)))) settled (fact 𝓤 (c.at + commit_size * c.left < 2 ^ 64)) (fact_i 𝓤 (c.at + commit_size * c.left < 2 ^ 64) (emp 𝓤) pre) 4 (λ r. r ≡ settled_by w a k c)
         (known ((tt, tt, tt, (w, (a, (k, (c, tt)))), (w-val ∷ [], (a-val ∷ [], (k-val ∷ [], (c-val ∷ [], tt))))), tt))
 
     -- ---- with the output or the table
-    pub write-commit-use : Triple 𝓤 (𝓣.C #synchronizer·commit·write-commit) WriteCommitMet → (b o m' : ℕ) (xs : List ℕ) {e : Item 𝓤} {after : List ℕ → Item 𝓤} → AsMut 𝓛 u8 b o m' xs e after → (c : Chain) (c-val : Val) → Is chain c (c-val ∷ []) → (0 < c.left) × (c.at + commitSize * c.left ≤ length xs)
-        → Gives 𝓛 𝓣.C #synchronizer·commit·write-commit (slice_val (b, o) m' ∷ c-val ∷ []) e (λ z (x : Unit {0} × List ℕ). (Put xs (c.at + commitSize * (c.left - 1)) commitSize (enc (commitRec c.block)) x.1 (c.at + commitSize * c.left)) × ((length x.1 ≡ m') × Is unit x.0 (z ∷ []))) (λ x. after x.1)
+    pub write-commit-use : Triple 𝓤 (𝓣.C #synchronizer·commit·write-commit) WriteCommitMet → (b o m' : ℕ) (xs : List ℕ) {e : Item 𝓤} {after : List ℕ → Item 𝓤} → AsMut 𝓛 u8 b o m' xs e after → (c : Chain) (c-val : Val) → Is chain c (c-val ∷ []) → (0 < c.left) × (c.at + commit_size * c.left ≤ length xs)
+        → Gives 𝓛 𝓣.C #synchronizer·commit·write-commit (slice_val (b, o) m' ∷ c-val ∷ []) e (λ z (x : Unit {0} × List ℕ). (Put xs (c.at + commit_size * (c.left - 1)) commit_size (enc (commit_rec c.block)) x.1 (c.at + commit_size * c.left)) × ((length x.1 ≡ m') × Is unit x.0 (z ∷ []))) (λ x. after x.1)
     write-commit-use known b o m' xs L c c-val c-is pre =
-        use-one 𝓛 fm #synchronizer·commit·write-commit (slice_val (b, o) m' ∷ c-val ∷ []) (chain ∷ []) (chain-makes 𝓛, tt) (c, tt) (c-val ∷ [], tt) (c-is, tt) unit (fact 𝓤 ((0 < c.left) × (c.at + commitSize * c.left ≤ length xs))) (fact_i 𝓤 ((0 < c.left) × (c.at + commitSize * c.left ≤ length xs)) (emp 𝓤) pre) L 1 (λ _ xs'. Put xs (c.at + commitSize * (c.left - 1)) commitSize (enc (commitRec c.block)) xs' (c.at + commitSize * c.left))
+        use-one 𝓛 fm #synchronizer·commit·write-commit (slice_val (b, o) m' ∷ c-val ∷ []) (chain ∷ []) (chain-makes 𝓛, tt) (c, tt) (c-val ∷ [], tt) (c-is, tt) unit (fact 𝓤 ((0 < c.left) × (c.at + commit_size * c.left ≤ length xs))) (fact_i 𝓤 ((0 < c.left) × (c.at + commit_size * c.left ≤ length xs)) (emp 𝓤) pre) L 1 (λ _ xs'. Put xs (c.at + commit_size * (c.left - 1)) commit_size (enc (commit_rec c.block)) xs' (c.at + commit_size * c.left))
         (λ p. known (((L.lft p, tt), (L.share p, tt), tt, (at_name u8 b o (L.name p) xs, (c, tt)), (slice_val (b, o) m' ∷ [], (c-val ∷ [], tt))), tt))
 
-    pub write-head-use : Triple 𝓤 (𝓣.C #synchronizer·settle·write-head) WriteHeadMet → (b o m' : ℕ) (xs : List ℕ) {e : Item 𝓤} {after : List ℕ → Item 𝓤} → AsMut 𝓛 u8 b o m' xs e after → (w : Work) (w-val : Val) → Is work w (w-val ∷ []) → (a : Ancestors) (a-val : Val) → Is ancestors a (a-val ∷ []) → (k : Walked) (k-val : Val) → Is count k (k-val ∷ []) → w.at + cleanMost ≤ length xs
+    pub write-head-use : Triple 𝓤 (𝓣.C #synchronizer·settle·write-head) WriteHeadMet → (b o m' : ℕ) (xs : List ℕ) {e : Item 𝓤} {after : List ℕ → Item 𝓤} → AsMut 𝓛 u8 b o m' xs e after → (w : Work) (w-val : Val) → Is work w (w-val ∷ []) → (a : Ancestors) (a-val : Val) → Is ancestors a (a-val ∷ []) → (k : Walked) (k-val : Val) → Is count k (k-val ∷ []) → w.at + clean_most ≤ length xs
         → Gives 𝓛 𝓣.C #synchronizer·settle·write-head (slice_val (b, o) m' ∷ w-val ∷ a-val ∷ k-val ∷ []) e (λ z (x : Chain × List ℕ). (Heads w a k xs x.0 x.1) × ((length x.1 ≡ m') × Is chain x.0 (z ∷ []))) (λ x. after x.1)
     write-head-use known b o m' xs L w w-val w-is a a-val a-is k k-val k-is pre =
-        use-one 𝓛 fm #synchronizer·settle·write-head (slice_val (b, o) m' ∷ w-val ∷ a-val ∷ k-val ∷ []) (work ∷ ancestors ∷ count ∷ []) (work-makes 𝓛, (ancestors-makes 𝓛, (count-makes 𝓛, tt))) (w, (a, (k, tt))) (w-val ∷ [], (a-val ∷ [], (k-val ∷ [], tt))) (w-is, (a-is, (k-is, tt))) chain (fact 𝓤 (w.at + cleanMost ≤ length xs)) (fact_i 𝓤 (w.at + cleanMost ≤ length xs) (emp 𝓤) pre) L 3 (λ r xs'. Heads w a k xs r xs')
+        use-one 𝓛 fm #synchronizer·settle·write-head (slice_val (b, o) m' ∷ w-val ∷ a-val ∷ k-val ∷ []) (work ∷ ancestors ∷ count ∷ []) (work-makes 𝓛, (ancestors-makes 𝓛, (count-makes 𝓛, tt))) (w, (a, (k, tt))) (w-val ∷ [], (a-val ∷ [], (k-val ∷ [], tt))) (w-is, (a-is, (k-is, tt))) chain (fact 𝓤 (w.at + clean_most ≤ length xs)) (fact_i 𝓤 (w.at + clean_most ≤ length xs) (emp 𝓤) pre) L 3 (λ r xs'. Heads w a k xs r xs')
         (λ p. known (((L.lft p, tt), (L.share p, tt), tt, (at_name u8 b o (L.name p) xs, (w, (a, (k, tt)))), (slice_val (b, o) m' ∷ [], (w-val ∷ [], (a-val ∷ [], (k-val ∷ [], tt))))), tt))
 
     pub ask-parent-use : Triple 𝓤 (𝓣.C #synchronizer·settle·ask-parent) AskParentMet → (b o m' : ℕ) (xs : List ℕ) {e : Item 𝓤} {after : List ℕ → Item 𝓤} → AsMut 𝓛 u8 b o m' xs e after → (w : Work) (w-val : Val) → Is work w (w-val ∷ []) → (s : Settled) (s-val : Val) → Is settled s (s-val ∷ []) → RoomToAsk s (length xs)
@@ -461,9 +461,9 @@ module _ {M : Type 1} {𝓤 : Ura M} (𝓛 : Logic 𝓤) (mem : Memory → SProp
         (λ p. known (((L.lft p, tt), (L.share p, tt), tt, (at_name slot b o (L.name p) ys, tt), (slice_val (b, o) m ∷ [], tt)), tt))
 
     pub slot-at-use : Triple 𝓤 (𝓣.C #synchronizer·table·slot-at) SlotAtMet → (b o m : ℕ) (ys : List Slot) {e : Item 𝓤} → AsShr 𝓛 slot b o m ys e → (i : ℕ) (i-val : Val) → Is usize i (i-val ∷ [])
-        → Gives 𝓛 𝓣.C #synchronizer·table·slot-at (slice_val (b, o) m ∷ i-val ∷ []) e (λ z (x : Slot × Unit {0}). (x.0 ≡ slotAt ys i) × (Unit {0} × Is slot x.0 (z ∷ []))) (λ _. e)
+        → Gives 𝓛 𝓣.C #synchronizer·table·slot-at (slice_val (b, o) m ∷ i-val ∷ []) e (λ z (x : Slot × Unit {0}). (x.0 ≡ slot_at ys i) × (Unit {0} × Is slot x.0 (z ∷ []))) (λ _. e)
     slot-at-use known b o m ys L i i-val i-is =
-        use-one 𝓛 fm #synchronizer·table·slot-at (slice_val (b, o) m ∷ i-val ∷ []) (usize ∷ []) (uint_Makes 𝓛 w64, tt) (i, tt) (i-val ∷ [], tt) (i-is, tt) slot (emp 𝓤) (id⊢ 𝓤 (emp 𝓤)) L 1 (λ r _. r ≡ slotAt ys i)
+        use-one 𝓛 fm #synchronizer·table·slot-at (slice_val (b, o) m ∷ i-val ∷ []) (usize ∷ []) (uint_Makes 𝓛 w64, tt) (i, tt) (i-val ∷ [], tt) (i-is, tt) slot (emp 𝓤) (id⊢ 𝓤 (emp 𝓤)) L 1 (λ r _. r ≡ slot_at ys i)
         (λ p. known (((L.lft p, tt), (L.share p, tt), tt, (at_name slot b o (L.name p) ys, (i, tt)), (slice_val (b, o) m ∷ [], (i-val ∷ [], tt))), tt))
 
     pub put-at-use : Triple 𝓤 (𝓣.C #synchronizer·table·put-at) PutAtMet → (b o m : ℕ) (ys : List Slot) {e : Item 𝓤} {after : List Slot → Item 𝓤} → AsMut 𝓛 slot b o m ys e after → (i : ℕ) (i-val : Val) → Is usize i (i-val ∷ []) → (s : Slot) (s-val : Val) → Is slot s (s-val ∷ [])
@@ -485,9 +485,9 @@ module _ {M : Type 1} {𝓤 : Ura M} (𝓛 : Logic 𝓤) (mem : Memory → SProp
         (λ p. known (((L.lft p, tt), (L.share p, tt), tt, (at_name slot b o (L.name p) ys, tt), (slice_val (b, o) m ∷ [], tt)), tt))
 
     pub store-use : Triple 𝓤 (𝓣.C #synchronizer·table·store) StoreMet → (b o m : ℕ) (ys : List Slot) {e : Item 𝓤} {after : List Slot → Item 𝓤} → AsMut 𝓛 slot b o m ys e after → (s : Slot) (s-val : Val) → Is slot s (s-val ∷ [])
-        → Gives 𝓛 𝓣.C #synchronizer·table·store (slice_val (b, o) m ∷ s-val ∷ []) e (λ z (x : ℕ × List Slot). ((x.0 ≡ storeAnswer (place_of ys s) (length ys)) × (x.1 ≡ stored ys s)) × ((length x.1 ≡ m) × Is u16 x.0 (z ∷ []))) (λ x. after x.1)
+        → Gives 𝓛 𝓣.C #synchronizer·table·store (slice_val (b, o) m ∷ s-val ∷ []) e (λ z (x : ℕ × List Slot). ((x.0 ≡ store_answer (place_of ys s) (length ys)) × (x.1 ≡ stored ys s)) × ((length x.1 ≡ m) × Is u16 x.0 (z ∷ []))) (λ x. after x.1)
     store-use known b o m ys L s s-val s-is =
-        use-one 𝓛 fm #synchronizer·table·store (slice_val (b, o) m ∷ s-val ∷ []) (slot ∷ []) (slot-makes 𝓛, tt) (s, tt) (s-val ∷ [], tt) (s-is, tt) u16 (emp 𝓤) (id⊢ 𝓤 (emp 𝓤)) L 1 (λ r ys'. (r ≡ storeAnswer (place_of ys s) (length ys)) × (ys' ≡ stored ys s))
+        use-one 𝓛 fm #synchronizer·table·store (slice_val (b, o) m ∷ s-val ∷ []) (slot ∷ []) (slot-makes 𝓛, tt) (s, tt) (s-val ∷ [], tt) (s-is, tt) u16 (emp 𝓤) (id⊢ 𝓤 (emp 𝓤)) L 1 (λ r ys'. (r ≡ store_answer (place_of ys s) (length ys)) × (ys' ≡ stored ys s))
         (λ p. known (((L.lft p, tt), (L.share p, tt), tt, (at_name slot b o (L.name p) ys, (s, tt)), (slice_val (b, o) m ∷ [], (s-val ∷ [], tt))), tt))
 
     pub get-parent-block-use : Triple 𝓤 (𝓣.C #synchronizer·ancestors·get-parent-block) GetParentBlockMet → (b o m : ℕ) (ys : List Slot) {e : Item 𝓤} → AsShr 𝓛 slot b o m ys e → (s : Slot) (s-val : Val) → Is slot s (s-val ∷ [])
@@ -497,9 +497,9 @@ module _ {M : Type 1} {𝓤 : Ura M} (𝓛 : Logic 𝓤) (mem : Memory → SProp
         (λ p. known (((L.lft p, tt), (L.share p, tt), tt, (at_name slot b o (L.name p) ys, (s, tt)), (slice_val (b, o) m ∷ [], (s-val ∷ [], tt))), tt))
 
     pub get-ancestors-use : Triple 𝓤 (𝓣.C #synchronizer·ancestors·get-ancestors) GetAncestorsMet → (b o m : ℕ) (ys : List Slot) {e : Item 𝓤} → AsShr 𝓛 slot b o m ys e → (s : Slot) (s-val : Val) → Is slot s (s-val ∷ [])
-        → Gives 𝓛 𝓣.C #synchronizer·ancestors·get-ancestors (slice_val (b, o) m ∷ s-val ∷ []) e (λ z (x : Ancestors × Unit {0}). (x.0 ≡ ancestorsOf ys s) × (Unit {0} × Is ancestors x.0 (z ∷ []))) (λ _. e)
+        → Gives 𝓛 𝓣.C #synchronizer·ancestors·get-ancestors (slice_val (b, o) m ∷ s-val ∷ []) e (λ z (x : Ancestors × Unit {0}). (x.0 ≡ ancestors_of ys s) × (Unit {0} × Is ancestors x.0 (z ∷ []))) (λ _. e)
     get-ancestors-use known b o m ys L s s-val s-is =
-        use-one 𝓛 fm #synchronizer·ancestors·get-ancestors (slice_val (b, o) m ∷ s-val ∷ []) (slot ∷ []) (slot-makes 𝓛, tt) (s, tt) (s-val ∷ [], tt) (s-is, tt) ancestors (emp 𝓤) (id⊢ 𝓤 (emp 𝓤)) L 1 (λ r _. r ≡ ancestorsOf ys s)
+        use-one 𝓛 fm #synchronizer·ancestors·get-ancestors (slice_val (b, o) m ∷ s-val ∷ []) (slot ∷ []) (slot-makes 𝓛, tt) (s, tt) (s-val ∷ [], tt) (s-is, tt) ancestors (emp 𝓤) (id⊢ 𝓤 (emp 𝓤)) L 1 (λ r _. r ≡ ancestors_of ys s)
         (λ p. known (((L.lft p, tt), (L.share p, tt), tt, (at_name slot b o (L.name p) ys, (s, tt)), (slice_val (b, o) m ∷ [], (s-val ∷ [], tt))), tt))
 
     pub admit-use : Triple 𝓤 (𝓣.C #synchronizer·settle·admit) AdmitMet → (b o m : ℕ) (ys : List Slot) {e : Item 𝓤} {after : List Slot → Item 𝓤} → AsMut 𝓛 slot b o m ys e after → (s : Slot) (s-val : Val) → Is slot s (s-val ∷ [])
@@ -509,32 +509,32 @@ module _ {M : Type 1} {𝓤 : Ura M} (𝓛 : Logic 𝓤) (mem : Memory → SProp
         (λ p. known (((L.lft p, tt), (L.share p, tt), tt, (at_name slot b o (L.name p) ys, (s, tt)), (slice_val (b, o) m ∷ [], (s-val ∷ [], tt))), tt))
 
     pub count-walk-use : Triple 𝓤 (𝓣.C #synchronizer·commit·count-walk) CountWalkMet → (b o m : ℕ) (ys : List Slot) {e : Item 𝓤} → AsShr 𝓛 slot b o m ys e → (s : Slot) (s-val : Val) → Is slot s (s-val ∷ []) → (l : Round) (l-val : Val) → Is round l (l-val ∷ [])
-        → Gives 𝓛 𝓣.C #synchronizer·commit·count-walk (slice_val (b, o) m ∷ s-val ∷ l-val ∷ []) e (λ z (x : Walked × Unit {0}). (x.0 ≡ count_of (commitOf ys s l.0)) × (Unit {0} × Is count x.0 (z ∷ []))) (λ _. e)
+        → Gives 𝓛 𝓣.C #synchronizer·commit·count-walk (slice_val (b, o) m ∷ s-val ∷ l-val ∷ []) e (λ z (x : Walked × Unit {0}). (x.0 ≡ count_of (commit_of ys s l.0)) × (Unit {0} × Is count x.0 (z ∷ []))) (λ _. e)
     count-walk-use known b o m ys L s s-val s-is l l-val l-is =
-        use-one 𝓛 fm #synchronizer·commit·count-walk (slice_val (b, o) m ∷ s-val ∷ l-val ∷ []) (slot ∷ round ∷ []) (slot-makes 𝓛, (round-makes 𝓛, tt)) (s, (l, tt)) (s-val ∷ [], (l-val ∷ [], tt)) (s-is, (l-is, tt)) count (emp 𝓤) (id⊢ 𝓤 (emp 𝓤)) L 2 (λ r _. r ≡ count_of (commitOf ys s l.0))
+        use-one 𝓛 fm #synchronizer·commit·count-walk (slice_val (b, o) m ∷ s-val ∷ l-val ∷ []) (slot ∷ round ∷ []) (slot-makes 𝓛, (round-makes 𝓛, tt)) (s, (l, tt)) (s-val ∷ [], (l-val ∷ [], tt)) (s-is, (l-is, tt)) count (emp 𝓤) (id⊢ 𝓤 (emp 𝓤)) L 2 (λ r _. r ≡ count_of (commit_of ys s l.0))
         (λ p. known (((L.lft p, tt), (L.share p, tt), tt, (at_name slot b o (L.name p) ys, (s, (l, tt))), (slice_val (b, o) m ∷ [], (s-val ∷ [], (l-val ∷ [], tt)))), tt))
 
     -- ---- with the table and the output
-    pub write-commits-use : Triple 𝓤 (𝓣.C #synchronizer·commit·write-commits) WriteCommitsMet → (b o m : ℕ) (ys : List Slot) {e : Item 𝓤} → AsShr 𝓛 slot b o m ys e → (b' o' m' : ℕ) (xs : List ℕ) {e' : Item 𝓤} {after' : List ℕ → Item 𝓤} → AsMut 𝓛 u8 b' o' m' xs e' after' → (c : Chain) (c-val : Val) → Is chain c (c-val ∷ []) → c.at + commitSize * c.left ≤ length xs
-        → Gives 𝓛 𝓣.C #synchronizer·commit·write-commits (slice_val (b, o) m ∷ slice_val (b', o') m' ∷ c-val ∷ []) (e ⊛ e') (λ z (x : Unit {0} × (Unit {0} × List ℕ)). (Wrote (commitSize * c.left) (map commitRec (chainOf c.left ys c.block)) xs c.at x.1.1 (c.at + commitSize * c.left)) × (Unit {0} × ((length x.1.1 ≡ m') × Is unit x.0 (z ∷ [])))) (λ x. e ⊛ after' x.1.1)
+    pub write-commits-use : Triple 𝓤 (𝓣.C #synchronizer·commit·write-commits) WriteCommitsMet → (b o m : ℕ) (ys : List Slot) {e : Item 𝓤} → AsShr 𝓛 slot b o m ys e → (b' o' m' : ℕ) (xs : List ℕ) {e' : Item 𝓤} {after' : List ℕ → Item 𝓤} → AsMut 𝓛 u8 b' o' m' xs e' after' → (c : Chain) (c-val : Val) → Is chain c (c-val ∷ []) → c.at + commit_size * c.left ≤ length xs
+        → Gives 𝓛 𝓣.C #synchronizer·commit·write-commits (slice_val (b, o) m ∷ slice_val (b', o') m' ∷ c-val ∷ []) (e ⊛ e') (λ z (x : Unit {0} × (Unit {0} × List ℕ)). (Wrote (commit_size * c.left) (map commit_rec (chain_of c.left ys c.block)) xs c.at x.1.1 (c.at + commit_size * c.left)) × (Unit {0} × ((length x.1.1 ≡ m') × Is unit x.0 (z ∷ [])))) (λ x. e ⊛ after' x.1.1)
     write-commits-use known b o m ys L b' o' m' xs L' c c-val c-is pre =
-        use-two 𝓛 fm #synchronizer·commit·write-commits (slice_val (b, o) m ∷ slice_val (b', o') m' ∷ c-val ∷ []) (chain ∷ []) (chain-makes 𝓛, tt) (c, tt) (c-val ∷ [], tt) (c-is, tt) unit (fact 𝓤 (c.at + commitSize * c.left ≤ length xs)) (fact_i 𝓤 (c.at + commitSize * c.left ≤ length xs) (emp 𝓤) pre) L L' 1 (λ _ _ xs'. Wrote (commitSize * c.left) (map commitRec (chainOf c.left ys c.block)) xs c.at xs' (c.at + commitSize * c.left))
+        use-two 𝓛 fm #synchronizer·commit·write-commits (slice_val (b, o) m ∷ slice_val (b', o') m' ∷ c-val ∷ []) (chain ∷ []) (chain-makes 𝓛, tt) (c, tt) (c-val ∷ [], tt) (c-is, tt) unit (fact 𝓤 (c.at + commit_size * c.left ≤ length xs)) (fact_i 𝓤 (c.at + commit_size * c.left ≤ length xs) (emp 𝓤) pre) L L' 1 (λ _ _ xs'. Wrote (commit_size * c.left) (map commit_rec (chain_of c.left ys c.block)) xs c.at xs' (c.at + commit_size * c.left))
         (λ p p'. known (((L.lft p, (L'.lft p', tt)), (L.share p, (L'.share p', tt)), tt, (at_name slot b o (L.name p) ys, (at_name u8 b' o' (L'.name p') xs, (c, tt))), (slice_val (b, o) m ∷ [], (slice_val (b', o') m' ∷ [], (c-val ∷ [], tt)))), tt))
 
     pub commit-use : Triple 𝓤 (𝓣.C #synchronizer·settle·commit) CommitMet → (b o m : ℕ) (ys : List Slot) {e : Item 𝓤} → AsShr 𝓛 slot b o m ys e → (b' o' m' : ℕ) (xs : List ℕ) {e' : Item 𝓤} {after' : List ℕ → Item 𝓤} → AsMut 𝓛 u8 b' o' m' xs e' after' → (w : Work) (w-val : Val) → Is work w (w-val ∷ []) → (a : Ancestors) (a-val : Val) → Is ancestors a (a-val ∷ []) → CommitsFit ys w a (length xs)
-        → Gives 𝓛 𝓣.C #synchronizer·settle·commit (slice_val (b, o) m ∷ slice_val (b', o') m' ∷ w-val ∷ a-val ∷ []) (e ⊛ e') (λ z (x : Settled × (Unit {0} × List ℕ)). (Settles (committedOf ys w a) (settleMost (length ys)) xs w.at x.0 ys x.1.1) × (Unit {0} × ((length x.1.1 ≡ m') × Is settled x.0 (z ∷ [])))) (λ x. e ⊛ after' x.1.1)
+        → Gives 𝓛 𝓣.C #synchronizer·settle·commit (slice_val (b, o) m ∷ slice_val (b', o') m' ∷ w-val ∷ a-val ∷ []) (e ⊛ e') (λ z (x : Settled × (Unit {0} × List ℕ)). (Settles (committed_of ys w a) (settle_most (length ys)) xs w.at x.0 ys x.1.1) × (Unit {0} × ((length x.1.1 ≡ m') × Is settled x.0 (z ∷ [])))) (λ x. e ⊛ after' x.1.1)
     commit-use known b o m ys L b' o' m' xs L' w w-val w-is a a-val a-is pre =
-        use-two 𝓛 fm #synchronizer·settle·commit (slice_val (b, o) m ∷ slice_val (b', o') m' ∷ w-val ∷ a-val ∷ []) (work ∷ ancestors ∷ []) (work-makes 𝓛, (ancestors-makes 𝓛, tt)) (w, (a, tt)) (w-val ∷ [], (a-val ∷ [], tt)) (w-is, (a-is, tt)) settled (fact 𝓤 (CommitsFit ys w a (length xs))) (fact_i 𝓤 (CommitsFit ys w a (length xs)) (emp 𝓤) pre) L L' 2 (λ r _ xs'. Settles (committedOf ys w a) (settleMost (length ys)) xs w.at r ys xs')
+        use-two 𝓛 fm #synchronizer·settle·commit (slice_val (b, o) m ∷ slice_val (b', o') m' ∷ w-val ∷ a-val ∷ []) (work ∷ ancestors ∷ []) (work-makes 𝓛, (ancestors-makes 𝓛, tt)) (w, (a, tt)) (w-val ∷ [], (a-val ∷ [], tt)) (w-is, (a-is, tt)) settled (fact 𝓤 (CommitsFit ys w a (length xs))) (fact_i 𝓤 (CommitsFit ys w a (length xs)) (emp 𝓤) pre) L L' 2 (λ r _ xs'. Settles (committed_of ys w a) (settle_most (length ys)) xs w.at r ys xs')
         (λ p p'. known (((L.lft p, (L'.lft p', tt)), (L.share p, (L'.share p', tt)), tt, (at_name slot b o (L.name p) ys, (at_name u8 b' o' (L'.name p') xs, (w, (a, tt)))), (slice_val (b, o) m ∷ [], (slice_val (b', o') m' ∷ [], (w-val ∷ [], (a-val ∷ [], tt))))), tt))
 
-    pub process-block-use : Triple 𝓤 (𝓣.C #synchronizer·settle·process-block) ProcessBlockMet → (b o m : ℕ) (ys : List Slot) {e : Item 𝓤} {after : List Slot → Item 𝓤} → AsMut 𝓛 slot b o m ys e after → (b' o' m' : ℕ) (xs : List ℕ) {e' : Item 𝓤} {after' : List ℕ → Item 𝓤} → AsMut 𝓛 u8 b' o' m' xs e' after' → (w : Work) (w-val : Val) → Is work w (w-val ∷ []) → w.at + settleMost (length ys) ≤ length xs
-        → Gives 𝓛 𝓣.C #synchronizer·settle·process-block (slice_val (b, o) m ∷ slice_val (b', o') m' ∷ w-val ∷ []) (e ⊛ e') (λ z (x : Settled × (List Slot × List ℕ)). (Settles (processedOf ys w) (settleMost (length ys)) xs w.at x.0 x.1.0 x.1.1) × ((length x.1.0 ≡ m) × ((length x.1.1 ≡ m') × Is settled x.0 (z ∷ [])))) (λ x. after x.1.0 ⊛ after' x.1.1)
+    pub process-block-use : Triple 𝓤 (𝓣.C #synchronizer·settle·process-block) ProcessBlockMet → (b o m : ℕ) (ys : List Slot) {e : Item 𝓤} {after : List Slot → Item 𝓤} → AsMut 𝓛 slot b o m ys e after → (b' o' m' : ℕ) (xs : List ℕ) {e' : Item 𝓤} {after' : List ℕ → Item 𝓤} → AsMut 𝓛 u8 b' o' m' xs e' after' → (w : Work) (w-val : Val) → Is work w (w-val ∷ []) → w.at + settle_most (length ys) ≤ length xs
+        → Gives 𝓛 𝓣.C #synchronizer·settle·process-block (slice_val (b, o) m ∷ slice_val (b', o') m' ∷ w-val ∷ []) (e ⊛ e') (λ z (x : Settled × (List Slot × List ℕ)). (Settles (processed_of ys w) (settle_most (length ys)) xs w.at x.0 x.1.0 x.1.1) × ((length x.1.0 ≡ m) × ((length x.1.1 ≡ m') × Is settled x.0 (z ∷ [])))) (λ x. after x.1.0 ⊛ after' x.1.1)
     process-block-use known b o m ys L b' o' m' xs L' w w-val w-is pre =
-        use-two 𝓛 fm #synchronizer·settle·process-block (slice_val (b, o) m ∷ slice_val (b', o') m' ∷ w-val ∷ []) (work ∷ []) (work-makes 𝓛, tt) (w, tt) (w-val ∷ [], tt) (w-is, tt) settled (fact 𝓤 (w.at + settleMost (length ys) ≤ length xs)) (fact_i 𝓤 (w.at + settleMost (length ys) ≤ length xs) (emp 𝓤) pre) L L' 1 (λ r ys' xs'. Settles (processedOf ys w) (settleMost (length ys)) xs w.at r ys' xs')
+        use-two 𝓛 fm #synchronizer·settle·process-block (slice_val (b, o) m ∷ slice_val (b', o') m' ∷ w-val ∷ []) (work ∷ []) (work-makes 𝓛, tt) (w, tt) (w-val ∷ [], tt) (w-is, tt) settled (fact 𝓤 (w.at + settle_most (length ys) ≤ length xs)) (fact_i 𝓤 (w.at + settle_most (length ys) ≤ length xs) (emp 𝓤) pre) L L' 1 (λ r ys' xs'. Settles (processed_of ys w) (settle_most (length ys)) xs w.at r ys' xs')
         (λ p p'. known (((L.lft p, (L'.lft p', tt)), (L.share p, (L'.share p', tt)), tt, (at_name slot b o (L.name p) ys, (at_name u8 b' o' (L'.name p') xs, (w, tt))), (slice_val (b, o) m ∷ [], (slice_val (b', o') m' ∷ [], (w-val ∷ [], tt)))), tt))
 
     pub settle-use : Triple 𝓤 (𝓣.C #synchronizer·settle·settle) SettleMet → (b o m : ℕ) (ys : List Slot) {e : Item 𝓤} {after : List Slot → Item 𝓤} → AsMut 𝓛 slot b o m ys e after → (b' o' m' : ℕ) (xs : List ℕ) {e' : Item 𝓤} {after' : List ℕ → Item 𝓤} → AsMut 𝓛 u8 b' o' m' xs e' after' → (w : Work) (w-val : Val) → Is work w (w-val ∷ []) → RoomFor w (length ys) (length xs)
-        → Gives 𝓛 𝓣.C #synchronizer·settle·settle (slice_val (b, o) m ∷ slice_val (b', o') m' ∷ w-val ∷ []) (e ⊛ e') (λ z (x : Settled × (List Slot × List ℕ)). (Settles (settled_of ys w) (settleMost (length ys)) xs w.at x.0 x.1.0 x.1.1) × ((length x.1.0 ≡ m) × ((length x.1.1 ≡ m') × Is settled x.0 (z ∷ [])))) (λ x. after x.1.0 ⊛ after' x.1.1)
+        → Gives 𝓛 𝓣.C #synchronizer·settle·settle (slice_val (b, o) m ∷ slice_val (b', o') m' ∷ w-val ∷ []) (e ⊛ e') (λ z (x : Settled × (List Slot × List ℕ)). (Settles (settled_of ys w) (settle_most (length ys)) xs w.at x.0 x.1.0 x.1.1) × ((length x.1.0 ≡ m) × ((length x.1.1 ≡ m') × Is settled x.0 (z ∷ [])))) (λ x. after x.1.0 ⊛ after' x.1.1)
     settle-use known b o m ys L b' o' m' xs L' w w-val w-is pre =
-        use-two 𝓛 fm #synchronizer·settle·settle (slice_val (b, o) m ∷ slice_val (b', o') m' ∷ w-val ∷ []) (work ∷ []) (work-makes 𝓛, tt) (w, tt) (w-val ∷ [], tt) (w-is, tt) settled (fact 𝓤 (RoomFor w (length ys) (length xs))) (fact_i 𝓤 (RoomFor w (length ys) (length xs)) (emp 𝓤) pre) L L' 1 (λ r ys' xs'. Settles (settled_of ys w) (settleMost (length ys)) xs w.at r ys' xs')
+        use-two 𝓛 fm #synchronizer·settle·settle (slice_val (b, o) m ∷ slice_val (b', o') m' ∷ w-val ∷ []) (work ∷ []) (work-makes 𝓛, tt) (w, tt) (w-val ∷ [], tt) (w-is, tt) settled (fact 𝓤 (RoomFor w (length ys) (length xs))) (fact_i 𝓤 (RoomFor w (length ys) (length xs)) (emp 𝓤) pre) L L' 1 (λ r ys' xs'. Settles (settled_of ys w) (settle_most (length ys)) xs w.at r ys' xs')
         (λ p p'. known (((L.lft p, (L'.lft p', tt)), (L.share p, (L'.share p', tt)), tt, (at_name slot b o (L.name p) ys, (at_name u8 b' o' (L'.name p') xs, (w, tt))), (slice_val (b, o) m ∷ [], (slice_val (b', o') m' ∷ [], (w-val ∷ [], tt)))), tt))

@@ -1,7 +1,7 @@
 // The parent and the grandparent of a block: synchronizer.rs.
 ghost use Rattle.std.specs.Prelude.{◌≡◌};
-ghost use Rattle.synchronizer.specs.Table.{genesis, parent_of, ancestorsBy, ancestorsOf};
-ghost use Rattle.synchronizer.specs.Parts.{wantParent, parent_by};
+ghost use Rattle.synchronizer.specs.Table.{genesis, parent_of, ancestors_by, ancestors_of};
+ghost use Rattle.synchronizer.specs.Parts.{want_parent, parent_by};
 
 use crate::table::{Slot, Want, find, slot_at};
 use certificates::error::{ANCESTOR_ABSENT, DONE, WAIT_PARENT};
@@ -9,14 +9,14 @@ use certificates::messages::is_genesis;
 use certificates::numbers::{Hash, Round};
 
 // A block that was looked up.
-#[derive(Drop)]
+#[derive(Clone, Copy)]
 pub struct Parent {
     pub found: bool,
     pub slot: Slot,
 }
 
 // `b0 <- |qc0; b1| <- |qc1; block|`. The answer is 0, 2 where b1 is absent, or 30 where b0 is.
-#[derive(Drop)]
+#[derive(Clone, Copy)]
 pub struct Ancestors {
     pub answer: u16,
     pub b0: Slot,
@@ -44,7 +44,7 @@ pub(crate) fn genesis_block() -> Slot
 
 // What is looked for to find a block's parent. For genesis no scan is made.
 pub(crate) fn wanted_parent(block: Slot) -> Want
-    ensures { result ≡ wantParent block }
+    ensures { result ≡ want_parent block }
 {
     let digest = block.parent;
     let round = block.parent_round;
@@ -87,7 +87,7 @@ pub(crate) fn slot_of(p: Parent) -> Slot
 }
 
 pub(crate) fn ancestors_by(p1: Parent, p0: Parent) -> Ancestors
-    ensures { result ≡ ancestorsBy p1 p0 }
+    ensures { result ≡ ancestors_by p1 p0 }
 {
     let b0 = p0.slot;
     let b1 = p1.slot;
@@ -114,7 +114,7 @@ pub(crate) fn ancestors_by(p1: Parent, p0: Parent) -> Ancestors
 
 // The block's parent b1 and grandparent b0.
 pub fn get_ancestors(table: &[Slot], block: Slot) -> Ancestors
-    ensures { result ≡ ancestorsOf table.now block }
+    ensures { result ≡ ancestors_of table.now block }
 {
     let p1 = get_parent_block(table, block);
     let p0 = get_parent_block(table, slot_of(p1));

@@ -1,12 +1,12 @@
 // The walk from a block to the last committed one, and the COMMITs that it brings: core.rs's commit,
 // corrected as 01 says.
 ghost use Rattle.std.specs.Prelude.{◌+◌, ◌*◌, ◌-◌, ◌≤◌, ◌<◌, ◌^◌, ◌≡◌, ltb, length, map, cond};
-ghost use Rattle.outputs.specs.Records.{commitSize, enc};
+ghost use Rattle.outputs.specs.Records.{commit_size, enc};
 ghost use Rattle.outputs.specs.Put.{Put, Wrote};
 ghost use Rattle.synchronizer.specs.Table.{genesis};
-ghost use Rattle.synchronizer.specs.Walk.{commitOf, chainOf};
-ghost use Rattle.synchronizer.specs.Settle.{commitRec};
-ghost use Rattle.synchronizer.specs.Parts.{stopped, setOut, walkOn, count_of};
+ghost use Rattle.synchronizer.specs.Walk.{commit_of, chain_of};
+ghost use Rattle.synchronizer.specs.Settle.{commit_rec};
+ghost use Rattle.synchronizer.specs.Parts.{stopped, set_out, walk_on, count_of};
 
 use crate::ancestors::{Parent, genesis_block, get_parent_block};
 use crate::table::Slot;
@@ -19,7 +19,7 @@ pub const COMMIT_SIZE: usize = 44;
 
 // How far a walk has come: whether it goes on, what it answers, how many blocks are delivered so far,
 // and the last of them.
-#[derive(Drop)]
+#[derive(Clone, Copy)]
 pub struct Trail {
     pub going: bool,
     pub answer: u16,
@@ -29,14 +29,14 @@ pub struct Trail {
 }
 
 // What a walk found: 0 and how many blocks are delivered, or 30 or 31 and none.
-#[derive(Drop)]
+#[derive(Clone, Copy)]
 pub struct Walked {
     pub answer: u16,
     pub blocks: usize,
 }
 
 // COMMITs that are still to be written: how many, the place of the oldest, and the newest block.
-#[derive(Drop)]
+#[derive(Clone, Copy)]
 pub struct Chain {
     pub left: usize,
     pub at: usize,
@@ -55,7 +55,7 @@ pub(crate) fn is_above_next(round: Round, last: Round) -> bool
 
 // A walk from b0. Where b0 is at or below the last committed round it delivers nothing.
 pub(crate) fn set_out(b0: Slot, last: Round) -> Trail
-    ensures { result ≡ setOut b0 last }
+    ensures { result ≡ set_out b0 last }
 {
     let round = b0.round;
     if last.0 < b0.round.0 {
@@ -106,7 +106,7 @@ pub(crate) fn stop(u: Trail, answer: u16, blocks: usize) -> Trail
 // The walk after one parent more.
 pub(crate) fn walk_on(u: Trail, p: Parent) -> Trail
     requires { u.blocks + 1 < 2 ^ 64 }
-    ensures { result ≡ walkOn u p }
+    ensures { result ≡ walk_on u p }
 {
     let block = p.slot;
     let child = u.block;
@@ -142,7 +142,7 @@ pub(crate) fn counted(u: Trail) -> Walked
 
 // How many blocks a commit of b0 delivers.
 pub fn count_walk(table: &[Slot], b0: Slot, last: Round) -> Walked
-    ensures { result ≡ count_of (commitOf table.now b0 last.0) }
+    ensures { result ≡ count_of (commit_of table.now b0 last.0) }
 {
     let mut u = set_out(b0, last);
     while goes_on(u) {
@@ -161,8 +161,8 @@ pub(crate) fn remains(c: Chain) -> bool
 
 // Writes the newest block's COMMIT, at the last of the places.
 pub(crate) fn write_commit(out: &mut [u8], c: Chain)
-    requires { (0 < c.left) × (c.at + commitSize * c.left ≤ length out.old) }
-    ensures { Put out.old (c.at + commitSize * (c.left - 1)) commitSize (enc (commitRec c.block)) out.new (c.at + commitSize * c.left) }
+    requires { (0 < c.left) × (c.at + commit_size * c.left ≤ length out.old) }
+    ensures { Put out.old (c.at + commit_size * (c.left - 1)) commit_size (enc (commit_rec c.block)) out.new (c.at + commit_size * c.left) }
 {
     let block = c.block;
     let digest = block.digest;
@@ -195,8 +195,8 @@ pub(crate) fn follow(c: Chain, p: Parent) -> Chain
 
 // Writes the COMMITs of a chain, found newest first, at falling places.
 pub fn write_commits(table: &[Slot], out: &mut [u8], c: Chain)
-    requires { c.at + commitSize * c.left ≤ length out.old }
-    ensures { Wrote (commitSize * c.left) (map commitRec (chainOf c.left table.now c.block)) out.old c.at out.new (c.at + commitSize * c.left) }
+    requires { c.at + commit_size * c.left ≤ length out.old }
+    ensures { Wrote (commit_size * c.left) (map commit_rec (chain_of c.left table.now c.block)) out.old c.at out.new (c.at + commit_size * c.left) }
 {
     let mut u = c;
     while remains(u) {

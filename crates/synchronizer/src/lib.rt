@@ -4,6 +4,8 @@
 // The table is a slice of slots that the caller lends. The borrow checker covers no function over a
 // slice of structs, so the functions over the table are few and thin, and each is proved by a walk of
 // its code; every decision is taken by a covered function on values.
+#![tactic(auto)]
+
 pub mod ancestors;
 pub mod commit;
 pub mod settle;

@@ -1,11 +1,11 @@
 // What an event does with the block table: nothing, START's clear, or a block (core.rs's
 // process_block, up to the vote).
 ghost use Rattle.std.specs.Prelude.{◌+◌, ◌*◌, ◌≤◌, ◌<◌, ◌^◌, ◌≡◌, length, eqb, not};
-ghost use Rattle.outputs.specs.Records.{commitSize};
+ghost use Rattle.outputs.specs.Records.{commit_size};
 ghost use Rattle.outputs.specs.Put.{Wrote};
-ghost use Rattle.synchronizer.specs.Settle.{isTwoChain, cleanOf, processedOf, settled_of, cleanMost, settleMost, RoomFor, Settles};
+ghost use Rattle.synchronizer.specs.Settle.{is_two_chain, clean_of, processed_of, settled_of, clean_most, settle_most, RoomFor, Settles};
 ghost use Rattle.synchronizer.specs.Settle as spec;
-ghost use Rattle.synchronizer.specs.Parts.{Admits, toCommit, committedOf, CommitsFit, Heads, settledBy, RoomToAsk, Asks};
+ghost use Rattle.synchronizer.specs.Parts.{Admits, to_commit, committed_of, CommitsFit, Heads, settled_by, RoomToAsk, Asks};
 
 use crate::ancestors::{Ancestors, genesis_block, get_ancestors};
 use crate::commit::{COMMIT_SIZE, Chain, Walked, count_walk, write_commits};
@@ -23,7 +23,7 @@ pub const BLOCK: u8 = 2;
 
 // What is to be done, `does` being one of the numbers above; any other does nothing. The block and its
 // author, the last committed round, and the place that outputs are written from.
-#[derive(Drop)]
+#[derive(Clone, Copy)]
 pub struct Work {
     pub does: u8,
     pub block: Slot,
@@ -33,7 +33,7 @@ pub struct Work {
 }
 
 // The answer, the last committed round, and the place after the outputs.
-#[derive(Drop)]
+#[derive(Clone, Copy)]
 pub struct Settled {
     pub answer: u16,
     pub last: Round,
@@ -116,7 +116,7 @@ pub(crate) fn is_next(low: Round, high: Round) -> bool
 
 // Whether b1 is of the round after b0's.
 pub(crate) fn is_two_chain(a: Ancestors) -> bool
-    ensures { result ≡ isTwoChain a.b0 a.b1 }
+    ensures { result ≡ is_two_chain a.b0 a.b1 }
 {
     let b0 = a.b0;
     let b1 = a.b1;
@@ -128,7 +128,7 @@ pub(crate) fn is_two_chain(a: Ancestors) -> bool
 // The block that is committed: b0 where the block is stored and b1 is of the next round, else genesis,
 // which never is.
 pub(crate) fn to_commit(a: Ancestors) -> Slot
-    ensures { result ≡ toCommit a }
+    ensures { result ≡ to_commit a }
 {
     if a.answer == DONE {
         if is_two_chain(a) {
@@ -141,8 +141,8 @@ pub(crate) fn to_commit(a: Ancestors) -> Slot
 
 // CLEAN PROPOSER, and CLEAN MEMPOOL where b0 is to be committed.
 pub(crate) fn write_clean(out: &mut [u8], w: Work, a: Ancestors) -> usize
-    requires { w.at + cleanMost ≤ length out.old }
-    ensures { Wrote cleanMost (cleanOf a.b0 a.b1 w.block) out.old w.at out.new result }
+    requires { w.at + clean_most ≤ length out.old }
+    ensures { Wrote clean_most (clean_of a.b0 a.b1 w.block) out.old w.at out.new result }
 {
     let block = w.block;
     let b0 = a.b0;
@@ -161,7 +161,7 @@ pub(crate) fn write_clean(out: &mut [u8], w: Work, a: Ancestors) -> usize
 // Writes what comes before the COMMITs of a stored block: the cleanup. Of a block that is not stored it
 // writes nothing. It answers the chain of the COMMITs.
 pub(crate) fn write_head(out: &mut [u8], w: Work, a: Ancestors, c: Walked) -> Chain
-    requires { w.at + cleanMost ≤ length out.old }
+    requires { w.at + clean_most ≤ length out.old }
     ensures { Heads w a c out.old result out.new }
 {
     let left = c.blocks;
@@ -179,8 +179,8 @@ pub(crate) fn write_head(out: &mut [u8], w: Work, a: Ancestors, c: Walked) -> Ch
 
 // How a block is settled, once its COMMITs are written.
 pub(crate) fn settled_by(w: Work, a: Ancestors, c: Walked, t: Chain) -> Settled
-    requires { t.at + commitSize * t.left < 2 ^ 64 }
-    ensures { result ≡ settledBy w a c t }
+    requires { t.at + commit_size * t.left < 2 ^ 64 }
+    ensures { result ≡ settled_by w a c t }
 {
     let at = t.at + COMMIT_SIZE * t.left;
     let last = w.last;
@@ -211,7 +211,7 @@ pub(crate) fn settled_by(w: Work, a: Ancestors, c: Walked, t: Chain) -> Settled
 // found before. Of a block that is not stored nothing is written.
 pub(crate) fn commit(table: &[Slot], out: &mut [u8], w: Work, a: Ancestors) -> Settled
     requires { CommitsFit table.now w a (length out.old) }
-    ensures { Settles (committedOf table.now w a) (settleMost (length table.now)) out.old w.at result table.now out.new }
+    ensures { Settles (committed_of table.now w a) (settle_most (length table.now)) out.old w.at result table.now out.new }
 {
     let c = count_walk(table, to_commit(a), last_in(w));
     let t = write_head(out, w, a, c);
@@ -222,8 +222,8 @@ pub(crate) fn commit(table: &[Slot], out: &mut [u8], w: Work, a: Ancestors) -> S
 // A block: its ancestors, the store, cleanup and commit. Where the parent is absent it answers WAIT
 // PARENT and writes nothing.
 pub(crate) fn process_block(table: &mut [Slot], out: &mut [u8], w: Work) -> Settled
-    requires { w.at + settleMost (length table.old) ≤ length out.old }
-    ensures { Settles (processedOf table.old w) (settleMost (length table.old)) out.old w.at result table.new out.new }
+    requires { w.at + settle_most (length table.old) ≤ length out.old }
+    ensures { Settles (processed_of table.old w) (settle_most (length table.old)) out.old w.at result table.new out.new }
 {
     let a = admit(table, block_in(w));
     commit(table, out, w, a)
@@ -254,7 +254,7 @@ pub(crate) fn ask_parent(out: &mut [u8], w: Work, s: Settled) -> Settled
 // the cleanup and a COMMIT for each slot; a block that waits writes SYNC alone.
 pub fn settle(table: &mut [Slot], out: &mut [u8], w: Work) -> Settled
     requires { RoomFor w (length table.old) (length out.old) }
-    ensures { Settles (settled_of table.old w) (settleMost (length table.old)) out.old w.at result table.new out.new }
+    ensures { Settles (settled_of table.old w) (settle_most (length table.old)) out.old w.at result table.new out.new }
 {
     if is_block(w) {
         let s = process_block(table, out, w);

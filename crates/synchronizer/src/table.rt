@@ -1,6 +1,6 @@
 // The block table: what stands at a place, what a scan finds, a store, and the clear of START.
 ghost use Rattle.std.specs.Prelude.{◌≡◌, cond, ltb, length, set};
-ghost use Rattle.synchronizer.specs.Table.{blank, slotAt, fits, lowest, wantAny, wantFree, wantDigest, place_of, stored, storeAnswer, cleared};
+ghost use Rattle.synchronizer.specs.Table.{blank, slot_at, fits, lowest, want_any, want_free, want_digest, place_of, stored, store_answer, cleared};
 ghost use Rattle.synchronizer.specs.Parts.{placed};
 
 use certificates::error::TABLE_FULL;
@@ -9,7 +9,7 @@ use certificates::numbers::{Hash, Round, same_hash};
 // A block as it is kept. A slot that is not used holds nothing. It is laid out as in C: a host lends
 // slices of it.
 #[repr(C)]
-#[derive(Drop)]
+#[derive(Clone, Copy)]
 pub struct Slot {
     pub used: bool,
     pub digest: Hash,
@@ -19,7 +19,7 @@ pub struct Slot {
 }
 
 // What a scan looks for: any slot at all, a free one, or a used one with this digest.
-#[derive(Drop)]
+#[derive(Clone, Copy)]
 pub struct Want {
     pub any: bool,
     pub free: bool,
@@ -72,7 +72,7 @@ pub fn len_of(table: &[Slot]) -> usize
 
 // The slot at a place, and an empty one past the end.
 pub fn slot_at(table: &[Slot], i: usize) -> Slot
-    ensures { result ≡ slotAt table.now i }
+    ensures { result ≡ slot_at table.now i }
 {
     if i < table.len() {
         return table[i];
@@ -117,7 +117,7 @@ pub fn clear(table: &mut [Slot])
 
 // A used slot with the block's digest.
 pub(crate) fn wanted(block: Slot) -> Want
-    ensures { result ≡ wantDigest block.digest }
+    ensures { result ≡ want_digest block.digest }
 {
     let digest = block.digest;
     Want {
@@ -129,7 +129,7 @@ pub(crate) fn wanted(block: Slot) -> Want
 
 // A free slot, where the digest was found at none of n slots; else there is nothing to look for.
 pub(crate) fn wanted_free(found: usize, n: usize) -> Want
-    ensures { result ≡ cond (ltb found n) wantAny wantFree }
+    ensures { result ≡ cond (ltb found n) want_any want_free }
 {
     let digest = Hash {
         a: 0,
@@ -161,7 +161,7 @@ pub(crate) fn place(found: usize, free: usize, n: usize) -> usize
 
 // 28 where the place is past the end: a new digest, and no empty slot.
 pub(crate) fn stored_at(at: usize, n: usize) -> u16
-    ensures { result ≡ storeAnswer at n }
+    ensures { result ≡ store_answer at n }
 {
     if at < n { 0 } else { TABLE_FULL }
 }
@@ -169,7 +169,7 @@ pub(crate) fn stored_at(at: usize, n: usize) -> u16
 // Stores a block in place of the one with its digest, or in the lowest free slot. Where there is
 // neither, it answers 28 and nothing changes.
 pub fn store(table: &mut [Slot], block: Slot) -> u16
-    ensures { (result ≡ storeAnswer (place_of table.old block) (length table.old)) × (table.new ≡ stored table.old block) }
+    ensures { (result ≡ store_answer (place_of table.old block) (length table.old)) × (table.new ≡ stored table.old block) }
 {
     let n = len_of(table);
     let found = find(table, wanted(block));

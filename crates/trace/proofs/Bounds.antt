@@ -7,7 +7,7 @@ use native.Mathlib.Omega.{arith}
 use lib.Dec.{ltb, leb}
 use borrow.Author.Tests.{lt-ltb, le-ltb, ltb-false, ltb-true, leb-true, leb-false}
 use Rattle.trace.specs.Layout.{largest}
-use Rattle.trace.specs.Form.{anyAbove}
+use Rattle.trace.specs.Form.{any_above}
 
 -- one of two numbers is above the bound if the larger is
 above-second : (t : Bool) (m x y : ℕ) → x ≤ m → t ≡ ltb m y → t ≡ ltb m (max x y)
@@ -19,27 +19,27 @@ above-max true m x y e = let h : m < x = ltb-true m x (sym e) in sym (lt-ltb m (
 above-max false m x y e = above-second (ltb m y) m x y (ltb-false m x (sym e)) refl
 
 -- a number of the list is above the bound if the largest is
-pub any-largest : (m : ℕ) (xs : List ℕ) → anyAbove m xs ≡ ltb m (largest xs)
-unfolding anyAbove largest
+pub any-largest : (m : ℕ) (xs : List ℕ) → any_above m xs ≡ ltb m (largest xs)
+unfolding any_above largest
 any-largest m [] = sym (le-ltb m 0 (omega arith))
 any-largest m (x ∷ xs) = rw (any-largest m xs) (above-max (ltb m x) m x (largest xs) refl)
 
 module _ (m : ℕ) where
   -- no number is above: each is within
-  pub none_above : (x : ℕ) (xs : List ℕ) → anyAbove m (x ∷ xs) ≡ false → (x ≤ m) × (anyAbove m xs ≡ false)
-  unfolding anyAbove
+  pub none_above : (x : ℕ) (xs : List ℕ) → any_above m (x ∷ xs) ≡ false → (x ≤ m) × (any_above m xs ≡ false)
+  unfolding any_above
   none_above x xs e = parts (ltb m x) refl e
     where
-      parts : (t : Bool) → t ≡ ltb m x → cond t true (anyAbove m xs) ≡ false → (x ≤ m) × (anyAbove m xs ≡ false)
+      parts : (t : Bool) → t ≡ ltb m x → cond t true (any_above m xs) ≡ false → (x ≤ m) × (any_above m xs ≡ false)
       parts true p q = let z : ◌≡◌ {A = ℕ} 0 1 = cc in absurd (omega arith)
       parts false p q = (ltb-false m x (sym p), q)
 
-  pub largest-within : (xs : List ℕ) → anyAbove m xs ≡ false → largest xs ≤ m
+  pub largest-within : (xs : List ℕ) → any_above m xs ≡ false → largest xs ≤ m
   largest-within xs e = ltb-false m (largest xs) (sym (any-largest m xs) ∙ e)
 
   -- a number alone, tested the other way round
-  pub one-within : (x : ℕ) → leb x m ≡ not (anyAbove m (x ∷ []))
-  unfolding anyAbove
+  pub one-within : (x : ℕ) → leb x m ≡ not (any_above m (x ∷ []))
+  unfolding any_above
   one-within x = by-test (leb x m) refl
     where
       by-test : (t : Bool) → t ≡ leb x m → t ≡ not (cond (ltb m x) true false)
@@ -48,12 +48,12 @@ module _ (m : ℕ) where
 
   -- one number more, in front
   module _ {x : ℕ} (xs : List ℕ) where
-    pub any_here : m < x → anyAbove m (x ∷ xs) ≡ true
-    unfolding anyAbove
+    pub any_here : m < x → any_above m (x ∷ xs) ≡ true
+    unfolding any_above
     any_here h = rw (lt-ltb _ _ h)
 
-    pub any-later : x ≤ m → anyAbove m (x ∷ xs) ≡ anyAbove m xs
-    unfolding anyAbove
+    pub any-later : x ≤ m → any_above m (x ∷ xs) ≡ any_above m xs
+    unfolding any_above
     any-later h = rw (le-ltb _ _ h)
 
 pub largest-one : (x : ℕ) → largest (x ∷ []) ≡ x

@@ -16,32 +16,32 @@ use lib.ListN.{length, get_or}
 use lib.Dec.{ltb, eqb}
 use borrow.Author.Tests.{ltb-false, eqb-true, eqb-false, eq-eqb, ne_eqb}
 use Rattle.certificates.specs.Num.{num_at}
-use Rattle.trace.specs.Record.{recordMax}
-use Rattle.trace.specs.Layout.{qcSize, qcPart, tcSize, tcPart, blockQC, timeoutQC, tcBody, flagAt, tcAt, blockEnd, payloadOf}
-use Rattle.trace.specs.Form.{kind_of, size_of, marksOf, payloadsOf, anyAbove, blockMarks, isFormed, form_of}
-use Rattle.trace.specs.Fields.{voteOf, timeoutOf, block_of}
+use Rattle.trace.specs.Record.{record_max}
+use Rattle.trace.specs.Layout.{qc_size, qc_part, tc_size, tc_part, block_qc, timeout_qc, tc_body, flag_at, tc_at, block_end, payload_of}
+use Rattle.trace.specs.Form.{kind_of, size_of, marks_of, payloads_of, any_above, block_marks, is_formed, form_of}
+use Rattle.trace.specs.Fields.{vote_of, timeout_of, block_of}
 use Rattle.trace.specs.declared.events.Kind.{Kind}
 use Rattle.trace.specs.declared.events.Kind.TheVariants.{Bad, Start, Propose, Vote, Timeout, Tc, Loopback, Tick}
 use Rattle.trace.proofs.Bounds.{none_above}
 use Rattle.trace.proofs.PartLaws.{qc-part-count, qc-part-length, tc-part-count, tc-part-length}
 
-abbrev pub isBad : Kind → Bool
-isBad Bad = true
-isBad Start = false
-isBad Propose = false
-isBad Vote = false
-isBad Timeout = false
-isBad Tc = false
-isBad Loopback = false
-isBad Tick = false
+abbrev pub is_bad : Kind → Bool
+is_bad Bad = true
+is_bad Start = false
+is_bad Propose = false
+is_bad Vote = false
+is_bad Timeout = false
+is_bad Tc = false
+is_bad Loopback = false
+is_bad Tick = false
 
 pub record Formed (s : List ℕ) (k : Kind) : Type 0 where
   pub least : 2 ≤ length s
-  pub most : length s ≤ recordMax
+  pub most : length s ≤ record_max
   pub kind-is : kind_of (num_at 2 s 0) ≡ k
   pub size : length s ≡ size_of s k
-  pub marks : anyAbove 1 (marksOf s k) ≡ false
-  pub payload : anyAbove 2 (payloadsOf s k) ≡ false
+  pub marks : any_above 1 (marks_of s k) ≡ false
+  pub payload : any_above 2 (payloads_of s k) ≡ false
 
 -- back from the answer to the tests
 record Passed (a b t : Bool) (j k : Kind) : Type 0 where
@@ -50,10 +50,10 @@ record Passed (a b t : Bool) (j k : Kind) : Type 0 where
   good : t ≡ true
   kind : j ≡ k
 
-passed : (a b t : Bool) (j k : Kind) → isBad k ≡ false → cond a Bad (cond b Bad (cond t j Bad)) ≡ k → Passed a b t j k
-passed true b t j k n e = let z : isBad k ≡ true = rw (sym e) in let w : ◌≡◌ {A = ℕ} 0 1 = cc in absurd (omega arith)
-passed false true t j k n e = let z : isBad k ≡ true = rw (sym e) in let w : ◌≡◌ {A = ℕ} 0 1 = cc in absurd (omega arith)
-passed false false false j k n e = let z : isBad k ≡ true = rw (sym e) in let w : ◌≡◌ {A = ℕ} 0 1 = cc in absurd (omega arith)
+passed : (a b t : Bool) (j k : Kind) → is_bad k ≡ false → cond a Bad (cond b Bad (cond t j Bad)) ≡ k → Passed a b t j k
+passed true b t j k n e = let z : is_bad k ≡ true = rw (sym e) in let w : ◌≡◌ {A = ℕ} 0 1 = cc in absurd (omega arith)
+passed false true t j k n e = let z : is_bad k ≡ true = rw (sym e) in let w : ◌≡◌ {A = ℕ} 0 1 = cc in absurd (omega arith)
+passed false false false j k n e = let z : is_bad k ≡ true = rw (sym e) in let w : ◌≡◌ {A = ℕ} 0 1 = cc in absurd (omega arith)
 passed false false true j k n e = record { short = refl; long = refl; good = refl; kind = e }
 
 record Shaped (a m p : Bool) : Type 0 where
@@ -67,13 +67,13 @@ shaped true true p e = let w : ◌≡◌ {A = ℕ} 0 1 = cc in absurd (omega ari
 shaped true false true e = let w : ◌≡◌ {A = ℕ} 0 1 = cc in absurd (omega arith)
 shaped true false false e = record { size = refl; marks = refl; payload = refl }
 
-pub formed : (s : List ℕ) (k : Kind) → isBad k ≡ false → form_of s ≡ k → Formed s k
-unfolding form_of isFormed
+pub formed : (s : List ℕ) (k : Kind) → is_bad k ≡ false → form_of s ≡ k → Formed s k
+unfolding form_of is_formed
 formed s k n e =
     let j : Kind = kind_of (num_at 2 s 0) in
-    let p = passed (ltb (length s) 2) (ltb recordMax (length s)) (isFormed s j) j k n e in
-    let g : isFormed s k ≡ true = rw p.kind at p.good in
-    let q = shaped (eqb (length s) (size_of s k)) (anyAbove 1 (marksOf s k)) (anyAbove 2 (payloadsOf s k)) g in
+    let p = passed (ltb (length s) 2) (ltb record_max (length s)) (is_formed s j) j k n e in
+    let g : is_formed s k ≡ true = rw p.kind at p.good in
+    let q = shaped (eqb (length s) (size_of s k)) (any_above 1 (marks_of s k)) (any_above 2 (payloads_of s k)) g in
     record {
       least = ltb-false _ _ p.short;
       most = ltb-false _ _ p.long;
@@ -86,30 +86,30 @@ formed s k n e =
 -- ---- the places of a block
 
 -- a TC starts after the flag and ends the block
-pub tc-after-flag : (s : List ℕ) → (tcAt s ≡ 0 → ⊥) → tcAt s ≡ flagAt s + 1
-unfolding tcAt
-tc-after-flag s = by_flag (eqb (get_or s (flagAt s) 0) 1)
+pub tc-after-flag : (s : List ℕ) → (tc_at s ≡ 0 → ⊥) → tc_at s ≡ flag_at s + 1
+unfolding tc_at
+tc-after-flag s = by_flag (eqb (get_or s (flag_at s) 0) 1)
   where
-    by_flag : (b : Bool) → (cond b (flagAt s + 1) 0 ≡ 0 → ⊥) → cond b (flagAt s + 1) 0 ≡ flagAt s + 1
+    by_flag : (b : Bool) → (cond b (flag_at s + 1) 0 ≡ 0 → ⊥) → cond b (flag_at s + 1) 0 ≡ flag_at s + 1
     by_flag true h = refl
     by_flag false h = absurd (h refl)
 
-pub end-with-tc : (s : List ℕ) → (tcAt s ≡ 0 → ⊥) → blockEnd s ≡ tcAt s + tcSize s (tcAt s)
-unfolding blockEnd
+pub end-with-tc : (s : List ℕ) → (tc_at s ≡ 0 → ⊥) → block_end s ≡ tc_at s + tc_size s (tc_at s)
+unfolding block_end
 end-with-tc s h = rw (ne_eqb _ _ h)
 
-pub end-plain : (s : List ℕ) → tcAt s ≡ 0 → blockEnd s ≡ flagAt s + 1
-unfolding blockEnd
+pub end-plain : (s : List ℕ) → tc_at s ≡ 0 → block_end s ≡ flag_at s + 1
+unfolding block_end
 end-plain s h = rw (eq-eqb _ _ h)
 
 -- the flag lies in the block
-pub flag-in-block : (s : List ℕ) → flagAt s < blockEnd s
-flag-in-block s = by-tc (eqb (tcAt s) 0) refl
+pub flag-in-block : (s : List ℕ) → flag_at s < block_end s
+flag-in-block s = by-tc (eqb (tc_at s) 0) refl
   where
-    by-tc : (b : Bool) → b ≡ eqb (tcAt s) 0 → flagAt s < blockEnd s
+    by-tc : (b : Bool) → b ≡ eqb (tc_at s) 0 → flag_at s < block_end s
     by-tc true e = let h = end-plain s (eqb-true _ _ (sym e)) in omega arith
     by-tc false e =
-        let n : tcAt s ≡ 0 → ⊥ = eqb-false _ _ (sym e) in
+        let n : tc_at s ≡ 0 → ⊥ = eqb-false _ _ (sym e) in
         let h = end-with-tc s n in
         let k = tc-after-flag s n in
         omega arith
@@ -117,25 +117,25 @@ flag-in-block s = by-tc (eqb (tcAt s) 0) refl
 -- ---- a certificate that ends in the record is whole
 
 module _ (s : List ℕ) (at : ℕ) where
-  pub qc-whole : at + qcSize s at ≤ length s → 43 + 2 * num_at 2 (qcPart s at) 41 ≤ length (qcPart s at)
+  pub qc-whole : at + qc_size s at ≤ length s → 43 + 2 * num_at 2 (qc_part s at) 41 ≤ length (qc_part s at)
   qc-whole h = let l = qc-part-length s at h in let e = qc-part-count s at in omega arith
 
-  pub tc-whole : at + tcSize s at ≤ length s → 11 + 10 * num_at 2 (tcPart s at) 9 ≤ length (tcPart s at)
+  pub tc-whole : at + tc_size s at ≤ length s → 11 + 10 * num_at 2 (tc_part s at) 9 ≤ length (tc_part s at)
   tc-whole h = let l = tc-part-length s at h in let e = tc-part-count s at in omega arith
 
 -- a block of at most the record's length
-module _ (s : List ℕ) (h : blockEnd s ≤ length s) where
-  block-qc : 43 + 2 * num_at 2 (qcPart s blockQC) 41 ≤ length (qcPart s blockQC)
-  unfolding flagAt
-  block-qc = qc-whole s blockQC (omega (arith, flag-in-block s))
+module _ (s : List ℕ) (h : block_end s ≤ length s) where
+  block-qc : 43 + 2 * num_at 2 (qc_part s block_qc) 41 ≤ length (qc_part s block_qc)
+  unfolding flag_at
+  block-qc = qc-whole s block_qc (omega (arith, flag-in-block s))
 
-  block-tc : (tcAt s ≡ 0 → ⊥) → 11 + 10 * num_at 2 (tcPart s (tcAt s)) 9 ≤ length (tcPart s (tcAt s))
-  block-tc n = let e = end-with-tc s n in tc-whole s (tcAt s) (omega arith)
+  block-tc : (tc_at s ≡ 0 → ⊥) → 11 + 10 * num_at 2 (tc_part s (tc_at s)) 9 ≤ length (tc_part s (tc_at s))
+  block-tc n = let e = end-with-tc s n in tc-whole s (tc_at s) (omega arith)
 
 module _ (s : List ℕ) where
-  pub form-bounds : (form_of s ≡ Bad → ⊥) → (2 ≤ length s) × (length s ≤ recordMax)
+  pub form-bounds : (form_of s ≡ Bad → ⊥) → (2 ≤ length s) × (length s ≤ record_max)
   unfolding form_of
-  form-bounds h = let p = tests (ltb (length s) 2) (ltb recordMax (length s)) _ h in (ltb-false _ _ p.0, ltb-false _ _ p.1)
+  form-bounds h = let p = tests (ltb (length s) 2) (ltb record_max (length s)) _ h in (ltb-false _ _ p.0, ltb-false _ _ p.1)
     where
       tests : (a b : Bool) (k : Kind) → (cond a Bad (cond b Bad k) ≡ Bad → ⊥) → (a ≡ false) × (b ≡ false)
       tests true b k h = absurd (h refl)
@@ -150,56 +150,56 @@ module _ (s : List ℕ) where
     pub vote-size : length s ≡ 45
     vote-size = (formed s Vote refl e).size
 
-    pub vote-verdict-le : (voteOf s).verdict ≤ 1
-    unfolding voteOf
+    pub vote-verdict-le : (vote_of s).verdict ≤ 1
+    unfolding vote_of
     vote-verdict-le = (none_above 1 _ [] (formed s Vote refl e).marks).0
 
   module _ (e : form_of s ≡ Timeout) where
-    pub timeout-size : length s ≡ timeoutQC + qcSize s timeoutQC
+    pub timeout-size : length s ≡ timeout_qc + qc_size s timeout_qc
     timeout-size = (formed s Timeout refl e).size
 
-    pub timeout-qc-whole : 43 + 2 * num_at 2 (qcPart s timeoutQC) 41 ≤ length (qcPart s timeoutQC)
-    timeout-qc-whole = let l = timeout-size in qc-whole s timeoutQC (omega arith)
+    pub timeout-qc-whole : 43 + 2 * num_at 2 (qc_part s timeout_qc) 41 ≤ length (qc_part s timeout_qc)
+    timeout-qc-whole = let l = timeout-size in qc-whole s timeout_qc (omega arith)
 
-    pub timeout-verdict-le : (timeoutOf s).verdict ≤ 1
-    unfolding timeoutOf
+    pub timeout-verdict-le : (timeout_of s).verdict ≤ 1
+    unfolding timeout_of
     timeout-verdict-le = (none_above 1 _ _ (formed s Timeout refl e).marks).0
 
   module _ (e : form_of s ≡ Tc) where
-    pub tc-size : length s ≡ tcBody + tcSize s tcBody
+    pub tc-size : length s ≡ tc_body + tc_size s tc_body
     tc-size = (formed s Tc refl e).size
 
-    pub tc-event-whole : 11 + 10 * num_at 2 (tcPart s tcBody) 9 ≤ length (tcPart s tcBody)
-    tc-event-whole = let l = tc-size in tc-whole s tcBody (omega arith)
+    pub tc-event-whole : 11 + 10 * num_at 2 (tc_part s tc_body) 9 ≤ length (tc_part s tc_body)
+    tc-event-whole = let l = tc-size in tc-whole s tc_body (omega arith)
 
-  block-verdict : anyAbove 1 (blockMarks s) ≡ false → (block_of s).verdict ≤ 1
-  unfolding blockMarks block_of
+  block-verdict : any_above 1 (block_marks s) ≡ false → (block_of s).verdict ≤ 1
+  unfolding block_marks block_of
   block-verdict e = (none_above 1 _ _ e).0
 
   module _ (e : form_of s ≡ Propose) where
-    pub propose-size : length s ≡ blockEnd s + 1
+    pub propose-size : length s ≡ block_end s + 1
     propose-size = (formed s Propose refl e).size
 
-    pub propose-qc-whole : 43 + 2 * num_at 2 (qcPart s blockQC) 41 ≤ length (qcPart s blockQC)
+    pub propose-qc-whole : 43 + 2 * num_at 2 (qc_part s block_qc) 41 ≤ length (qc_part s block_qc)
     propose-qc-whole = let l = propose-size in block-qc s (omega arith)
 
-    pub propose-tc-whole : ((block_of s).tc ≡ 0 → ⊥) → 11 + 10 * num_at 2 (tcPart s (block_of s).tc) 9 ≤ length (tcPart s (block_of s).tc)
+    pub propose-tc-whole : ((block_of s).tc ≡ 0 → ⊥) → 11 + 10 * num_at 2 (tc_part s (block_of s).tc) 9 ≤ length (tc_part s (block_of s).tc)
     unfolding block_of
     propose-tc-whole n = let l = propose-size in block-tc s (omega arith) n
 
     pub propose-verdict-le : (block_of s).verdict ≤ 1
     propose-verdict-le = block-verdict (formed s Propose refl e).marks
 
-    pub payload-le : payloadOf s ≤ 2
+    pub payload-le : payload_of s ≤ 2
     payload-le = (none_above 2 _ [] (formed s Propose refl e).payload).0
 
   module _ (e : form_of s ≡ Loopback) where
-    pub loopback-size : length s ≡ blockEnd s
+    pub loopback-size : length s ≡ block_end s
     loopback-size = (formed s Loopback refl e).size
 
-    pub loopback-qc-whole : 43 + 2 * num_at 2 (qcPart s blockQC) 41 ≤ length (qcPart s blockQC)
+    pub loopback-qc-whole : 43 + 2 * num_at 2 (qc_part s block_qc) 41 ≤ length (qc_part s block_qc)
     loopback-qc-whole = let l = loopback-size in block-qc s (omega arith)
 
-    pub loopback-tc-whole : ((block_of s).tc ≡ 0 → ⊥) → 11 + 10 * num_at 2 (tcPart s (block_of s).tc) 9 ≤ length (tcPart s (block_of s).tc)
+    pub loopback-tc-whole : ((block_of s).tc ≡ 0 → ⊥) → 11 + 10 * num_at 2 (tc_part s (block_of s).tc) 9 ≤ length (tc_part s (block_of s).tc)
     unfolding block_of
     loopback-tc-whole n = let l = loopback-size in block-tc s (omega arith) n

@@ -9,8 +9,8 @@ use lib.ListN.{length, length-append, take, drop, get_or, length-drop, length-ta
 use lib.Seq.{take-append-le, drop-append-le, drop-drop, take_all, take-take, take-nil}
 use lib.Dec.{leb}
 use borrow.Author.Tests.{le-leb, lt-leb, leb-true, leb-false}
-use Rattle.certificates.specs.Num.{le, num_at, hashIn, hashAt}
-use Rattle.certificates.specs.Numbers.{zeroHash}
+use Rattle.certificates.specs.Num.{le, num_at, hash_in, hash_at}
+use Rattle.certificates.specs.Numbers.{zero_hash}
 use Rattle.certificates.proofs.Bytes.{num-in, num-out, hash-in, hash-out}
 use Rattle.trace.specs.Part.{between}
 
@@ -92,13 +92,13 @@ module _ (s : List ℕ) (a n i : ℕ) where
   read-part w h = let m : w ≤ n - i = omega arith in rw (drop-take, take-take w (n - i), drop-drop)
 
 module _ (s : List ℕ) (at : ℕ) where
-  hash-inside : at + 32 ≤ length s → hashAt s at ≡ hashIn s at
+  hash-inside : at + 32 ≤ length s → hash_at s at ≡ hash_in s at
   hash-inside h = sym (hash-in s at refl (le-leb _ _ h) refl)
 
-  hash-past : length s < at + 32 → hashAt s at ≡ zeroHash
+  hash-past : length s < at + 32 → hash_at s at ≡ zero_hash
   hash-past h = sym (hash-out s at refl (lt-leb _ _ h))
 
-pub hash-part : (s : List ℕ) (a n : ℕ) → 32 ≤ n → hashAt (take n (drop a s)) 0 ≡ hashAt s a
+pub hash-part : (s : List ℕ) (a n : ℕ) → 32 ≤ n → hash_at (take n (drop a s)) 0 ≡ hash_at s a
 hash-part s a n h =
     by_order (a + 32) (length s)
     (λ k.

@@ -1,17 +1,17 @@
 -- 01, The trace form: the table of events, and the records that get 16.
 --     kind_of k            "The two-byte kind decides among seven event kinds."
 --     size_of r k          how many bytes a record of the kind has, by its counts
---     blockMarks r        the verdicts and the flag of a block
---     marksOf r k         the verdicts and flags of a record of the kind
---     payloadsOf r k      its payload verdict, if any
---     anyAbove m xs       whether one of some numbers is above m
---     areMarks r          whether the verdicts and the flag of a block are 0 or 1
---     isFormed r k        whether a record has the form of the kind
+--     block_marks r        the verdicts and the flag of a block
+--     marks_of r k         the verdicts and flags of a record of the kind
+--     payloads_of r k      its payload verdict, if any
+--     any_above m xs       whether one of some numbers is above m
+--     are_marks r          whether the verdicts and the flag of a block are 0 or 1
+--     is_formed r k        whether a record has the form of the kind
 --     form_of r            the kind of a record that has the form of its kind, and Bad for any other
 use Rattle.std.specs.Prelude.{ℕ, ◌+◌, ◌*◌, Bool, true, false, not, cond, List, [], ◌∷◌, length, get_or, ltb, eqb}
 use Rattle.certificates.specs.Num.{num_at}
-use Rattle.trace.specs.Record.{recordMax}
-use Rattle.trace.specs.Layout.{qcVerdict, qcSize, tcVerdict, tcSize, blockQC, timeoutQC, tcBody, flagAt, tcAt, blockEnd, payloadOf}
+use Rattle.trace.specs.Record.{record_max}
+use Rattle.trace.specs.Layout.{qc_verdict, qc_size, tc_verdict, tc_size, block_qc, timeout_qc, tc_body, flag_at, tc_at, block_end, payload_of}
 use Rattle.trace.specs.declared.events.Kind.{Kind}
 use Rattle.trace.specs.declared.events.Kind.TheVariants.{Bad, Start, Propose, Vote, Timeout, Tc, Loopback, Tick}
 
@@ -31,59 +31,59 @@ size_of r Bad = 0
 -- "count 2, own place 2, then key 32 and stake 4 each"
 size_of r Start = 6 + 36 * num_at 2 r 2
 -- "block, payload verdict 1"
-size_of r Propose = blockEnd r + 1
+size_of r Propose = block_end r + 1
 -- "hash 32, round 8, author 2, verdict 1"
 size_of r Vote = 45
 -- "round 8, author 2, verdict 1, QC"
-size_of r Timeout = timeoutQC + qcSize r timeoutQC
+size_of r Timeout = timeout_qc + qc_size r timeout_qc
 -- "TC"
-size_of r Tc = tcBody + tcSize r tcBody
+size_of r Tc = tc_body + tc_size r tc_body
 -- "block (verdict bytes 0 or 1, else not looked at)"
-size_of r Loopback = blockEnd r
+size_of r Loopback = block_end r
 -- "empty"
 size_of r Tick = 2
 
 -- the verdicts and the flag of a block
-unfoldable pub blockMarks : List ℕ → List ℕ
-blockMarks r =
-    get_or r 44 0 ∷ qcVerdict r blockQC ∷ get_or r (flagAt r) 0 ∷ cond (eqb (tcAt r) 0) [] (tcVerdict r (tcAt r) ∷ [])
+unfoldable pub block_marks : List ℕ → List ℕ
+block_marks r =
+    get_or r 44 0 ∷ qc_verdict r block_qc ∷ get_or r (flag_at r) 0 ∷ cond (eqb (tc_at r) 0) [] (tc_verdict r (tc_at r) ∷ [])
 
 -- "verdict or flag out of range"
-abbrev pub marksOf : List ℕ → Kind → List ℕ
-marksOf r Bad = []
-marksOf r Start = []
-marksOf r Propose = blockMarks r
-marksOf r Vote = get_or r 44 0 ∷ []
-marksOf r Timeout = get_or r 12 0 ∷ qcVerdict r timeoutQC ∷ []
-marksOf r Tc = tcVerdict r tcBody ∷ []
-marksOf r Loopback = blockMarks r
-marksOf r Tick = []
+abbrev pub marks_of : List ℕ → Kind → List ℕ
+marks_of r Bad = []
+marks_of r Start = []
+marks_of r Propose = block_marks r
+marks_of r Vote = get_or r 44 0 ∷ []
+marks_of r Timeout = get_or r 12 0 ∷ qc_verdict r timeout_qc ∷ []
+marks_of r Tc = tc_verdict r tc_body ∷ []
+marks_of r Loopback = block_marks r
+marks_of r Tick = []
 
 -- "payload verdict 1 (0 absent, 1 ready, 2 invalid)"
-abbrev pub payloadsOf : List ℕ → Kind → List ℕ
-payloadsOf r Bad = []
-payloadsOf r Start = []
-payloadsOf r Propose = payloadOf r ∷ []
-payloadsOf r Vote = []
-payloadsOf r Timeout = []
-payloadsOf r Tc = []
-payloadsOf r Loopback = []
-payloadsOf r Tick = []
+abbrev pub payloads_of : List ℕ → Kind → List ℕ
+payloads_of r Bad = []
+payloads_of r Start = []
+payloads_of r Propose = payload_of r ∷ []
+payloads_of r Vote = []
+payloads_of r Timeout = []
+payloads_of r Tc = []
+payloads_of r Loopback = []
+payloads_of r Tick = []
 
-unfoldable pub anyAbove : ℕ → List ℕ → Bool
-anyAbove m [] = false
-anyAbove m (x ∷ xs) = cond (ltb m x) true (anyAbove m xs)
+unfoldable pub any_above : ℕ → List ℕ → Bool
+any_above m [] = false
+any_above m (x ∷ xs) = cond (ltb m x) true (any_above m xs)
 
 -- whether the verdicts and the flag of a block are 0 or 1
-abbrev pub areMarks : List ℕ → Bool
-areMarks r = not (anyAbove 1 (blockMarks r))
+abbrev pub are_marks : List ℕ → Bool
+are_marks r = not (any_above 1 (block_marks r))
 
-unfoldable pub isFormed : List ℕ → Kind → Bool
-isFormed r k =
-    cond (eqb (length r) (size_of r k)) (cond (anyAbove 1 (marksOf r k)) false (not (anyAbove 2 (payloadsOf r k)))) false
+unfoldable pub is_formed : List ℕ → Kind → Bool
+is_formed r k =
+    cond (eqb (length r) (size_of r k)) (cond (any_above 1 (marks_of r k)) false (not (any_above 2 (payloads_of r k)))) false
 
 unfoldable pub form_of : List ℕ → Kind
 form_of r =
     cond (ltb (length r) 2) Bad
-    (cond (ltb recordMax (length r)) Bad
-    (cond (isFormed r (kind_of (num_at 2 r 0))) (kind_of (num_at 2 r 0)) Bad))
+    (cond (ltb record_max (length r)) Bad
+    (cond (is_formed r (kind_of (num_at 2 r 0))) (kind_of (num_at 2 r 0)) Bad))

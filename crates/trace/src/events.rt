@@ -12,10 +12,10 @@
 //   QC                hash 0, round 32, verdict 40, count 41, places of 2 from 43
 //   TC                round 0, verdict 8, count 9, entries of 10 from 11: place 0, high round 2
 ghost use Rattle.std.specs.Prelude.{◌≡◌, cond, max, ◌^◌, ◌<◌, length, drop, set, replicate};
-ghost use Rattle.trace.specs.Layout.{signersMax, qcPart, tcPart, flagAt, tcAt, blockEnd, payloadOf, tcRounds, largest, largestHigh, highsOf};
-ghost use Rattle.trace.specs.Form.{isFormed, form_of, areMarks};
-ghost use Rattle.trace.specs.Limits.{bounded, limitOf};
-ghost use Rattle.trace.specs.Fields.{voteOf, timeoutOf, block_of, tcRoundOf, tcHighOf};
+ghost use Rattle.trace.specs.Layout.{signers_max, qc_part, tc_part, flag_at, tc_at, block_end, payload_of, tc_rounds, largest, largest_high, highs_of};
+ghost use Rattle.trace.specs.Form.{is_formed, form_of, are_marks};
+ghost use Rattle.trace.specs.Limits.{bounded, limit_of};
+ghost use Rattle.trace.specs.Fields.{vote_of, timeout_of, block_of, tc_round_of, tc_high_of};
 
 use crate::part::{after, byte_at, first};
 use crate::record::RECORD_MAX;
@@ -33,7 +33,7 @@ pub const TIMEOUT_QC: usize = 13;
 
 pub const TC_BODY: usize = 2;
 
-#[derive(Drop)]
+#[derive(Clone, Copy)]
 pub enum Kind {
     // No kind, or not the form of its kind.
     Bad,
@@ -46,7 +46,7 @@ pub enum Kind {
     Tick,
 }
 
-#[derive(Drop)]
+#[derive(Clone, Copy)]
 pub struct Vote {
     pub hash: Hash,
     pub round: Round,
@@ -54,7 +54,7 @@ pub struct Vote {
     pub verdict: u8,
 }
 
-#[derive(Drop)]
+#[derive(Clone, Copy)]
 pub struct Timeout {
     pub round: Round,
     pub author: Place,
@@ -63,7 +63,7 @@ pub struct Timeout {
     pub qc_round: Round,
 }
 
-#[derive(Drop)]
+#[derive(Clone, Copy)]
 pub struct Block {
     pub digest: Hash,
     pub author: Place,
@@ -89,7 +89,7 @@ pub fn body_of(record: &[u8]) -> &[u8]
 // The certificate that starts at a place, as it lies: as long as its count says, and cut where the
 // record ends.
 pub fn qc_part(record: &[u8], at: usize) -> &[u8]
-    ensures { result.now ≡ qcPart «record».now at }
+    ensures { result.now ≡ qc_part «record».now at }
 {
     let tail = after(record, at);
     let n = u16_at(tail, 41) as usize;
@@ -97,7 +97,7 @@ pub fn qc_part(record: &[u8], at: usize) -> &[u8]
 }
 
 pub fn tc_part(record: &[u8], at: usize) -> &[u8]
-    ensures { result.now ≡ tcPart «record».now at }
+    ensures { result.now ≡ tc_part «record».now at }
 {
     let tail = after(record, at);
     let n = u16_at(tail, 9) as usize;
@@ -106,7 +106,7 @@ pub fn tc_part(record: &[u8], at: usize) -> &[u8]
 
 // Where the TC flag of a block stands: right after the QC.
 fn flag_at(record: &[u8]) -> usize
-    ensures { (result ≡ flagAt «record».now) × (result < 2 ^ 32) }
+    ensures { (result ≡ flag_at «record».now) × (result < 2 ^ 32) }
 {
     let n = u16_at(record, 86) as usize;
     88 + 2 * n
@@ -114,7 +114,7 @@ fn flag_at(record: &[u8]) -> usize
 
 // Where the TC of a block starts: right after the flag, and 0 where there is none.
 fn tc_at(record: &[u8]) -> usize
-    ensures { (result ≡ tcAt «record».now) × (result < 2 ^ 33) }
+    ensures { (result ≡ tc_at «record».now) × (result < 2 ^ 33) }
 {
     let flag = flag_at(record);
     if byte_at(record, flag) == 1 {
@@ -126,7 +126,7 @@ fn tc_at(record: &[u8]) -> usize
 
 // Where a block ends.
 fn block_end(record: &[u8]) -> usize
-    ensures { (result ≡ blockEnd «record».now) × (result < 2 ^ 34) }
+    ensures { (result ≡ block_end «record».now) × (result < 2 ^ 34) }
 {
     let tc = tc_at(record);
     if tc == 0 {
@@ -138,7 +138,7 @@ fn block_end(record: &[u8]) -> usize
 
 // PROPOSE's last byte: 0 absent, 1 ready, 2 invalid.
 pub fn payload_of(record: &[u8]) -> u8
-    ensures { result ≡ payloadOf «record».now }
+    ensures { result ≡ payload_of «record».now }
 {
     let n = record.len();
     if n < 1 {
@@ -150,14 +150,14 @@ pub fn payload_of(record: &[u8]) -> u8
 // ---- the form of each kind: the length that the counts call for, and verdicts and flags in range
 
 fn start_ok(record: &[u8]) -> bool
-    ensures { result ≡ isFormed «record».now Kind.Start }
+    ensures { result ≡ is_formed «record».now Kind.Start }
 {
     let n = u16_at(record, 2) as usize;
     record.len() == 6 + 36 * n
 }
 
 fn vote_ok(record: &[u8]) -> bool
-    ensures { result ≡ isFormed «record».now Kind.Vote }
+    ensures { result ≡ is_formed «record».now Kind.Vote }
 {
     if record.len() != 45 {
         return false;
@@ -166,7 +166,7 @@ fn vote_ok(record: &[u8]) -> bool
 }
 
 fn timeout_ok(record: &[u8]) -> bool
-    ensures { result ≡ isFormed «record».now Kind.Timeout }
+    ensures { result ≡ is_formed «record».now Kind.Timeout }
 {
     let n = u16_at(record, 54) as usize;
     if record.len() != 56 + 2 * n {
@@ -179,7 +179,7 @@ fn timeout_ok(record: &[u8]) -> bool
 }
 
 fn tc_ok(record: &[u8]) -> bool
-    ensures { result ≡ isFormed «record».now Kind.Tc }
+    ensures { result ≡ is_formed «record».now Kind.Tc }
 {
     let n = u16_at(record, 11) as usize;
     if record.len() != 13 + 10 * n {
@@ -190,7 +190,7 @@ fn tc_ok(record: &[u8]) -> bool
 
 // Whether the verdicts and the flag of a block are 0 or 1.
 fn marks_ok(record: &[u8]) -> bool
-    ensures { result ≡ areMarks «record».now }
+    ensures { result ≡ are_marks «record».now }
 {
     if 1 < byte_at(record, 44) {
         return false;
@@ -210,7 +210,7 @@ fn marks_ok(record: &[u8]) -> bool
 }
 
 fn propose_ok(record: &[u8]) -> bool
-    ensures { result ≡ isFormed «record».now Kind.Propose }
+    ensures { result ≡ is_formed «record».now Kind.Propose }
 {
     if record.len() != block_end(record) + 1 {
         return false;
@@ -222,7 +222,7 @@ fn propose_ok(record: &[u8]) -> bool
 }
 
 fn loopback_ok(record: &[u8]) -> bool
-    ensures { result ≡ isFormed «record».now Kind.Loopback }
+    ensures { result ≡ is_formed «record».now Kind.Loopback }
 {
     if record.len() != block_end(record) {
         return false;
@@ -275,7 +275,7 @@ fn longer(a: u16, b: u16) -> u16
 
 // The largest high round over the entries of a TC: 0 where it has none.
 pub fn largest_high(part: &[u8]) -> Round
-    ensures { result.0 ≡ largestHigh part.now }
+    ensures { result.0 ≡ largest_high part.now }
 {
     let n = u16_at(part, 9) as usize;
     let mut high = 0u64;
@@ -308,8 +308,8 @@ fn put_high(highs: &mut [u64], p: usize, high: u64)
 
 // The high round of each place, and 0 for one that has no entry.
 pub fn highs_of(highs: &mut [u64], part: &[u8])
-    requires { length highs.old ≡ signersMax }
-    ensures { highs.new ≡ highsOf part.now }
+    requires { length highs.old ≡ signers_max }
+    ensures { highs.new ≡ highs_of part.now }
 {
     clear(highs);
     let n = u16_at(part, 9) as usize;
@@ -339,14 +339,14 @@ fn bound(count: u16, round: u64) -> u16
 
 // The highest round of a TC that starts at a place of the record.
 fn tc_rounds(record: &[u8], at: usize) -> u64
-    ensures { result ≡ largest (tcRounds «record».now at) }
+    ensures { result ≡ largest (tc_rounds «record».now at) }
 {
     let high = largest_high(tc_part(record, at));
     higher(u64_at(record, at), high.0)
 }
 
 fn block_limit(record: &[u8]) -> u16
-    ensures { result ≡ limitOf «record».now Kind.Propose }
+    ensures { result ≡ limit_of «record».now Kind.Propose }
 {
     let count = u16_at(record, 86);
     let round = higher(u64_at(record, 36), u64_at(record, 77));
@@ -361,7 +361,7 @@ fn block_limit(record: &[u8]) -> u16
 }
 
 fn loopback_limit(record: &[u8]) -> u16
-    ensures { result ≡ limitOf «record».now Kind.Loopback }
+    ensures { result ≡ limit_of «record».now Kind.Loopback }
 {
     let tc = tc_at(record);
     if tc == 0 {
@@ -375,7 +375,7 @@ fn loopback_limit(record: &[u8]) -> u16
 
 // 32, 20 or 19 for a record that passes a limit, in this order, and else 0.
 pub fn limit_of(record: &[u8], kind: Kind) -> u16
-    ensures { result ≡ limitOf «record».now kind }
+    ensures { result ≡ limit_of «record».now kind }
 {
     match kind {
         Kind::Bad => 0,
@@ -395,7 +395,7 @@ pub fn limit_of(record: &[u8], kind: Kind) -> u16
 // ---- fields
 
 pub fn vote_of(record: &[u8]) -> Vote
-    ensures { result ≡ voteOf «record».now }
+    ensures { result ≡ vote_of «record».now }
 {
     Vote {
         hash: hash_at(record, 2),
@@ -406,7 +406,7 @@ pub fn vote_of(record: &[u8]) -> Vote
 }
 
 pub fn timeout_of(record: &[u8]) -> Timeout
-    ensures { result ≡ timeoutOf «record».now }
+    ensures { result ≡ timeout_of «record».now }
 {
     Timeout {
         round: Round(u64_at(record, 2)),
@@ -418,7 +418,7 @@ pub fn timeout_of(record: &[u8]) -> Timeout
 }
 
 fn tc_round_of(record: &[u8], tc: usize) -> Round
-    ensures { result.0 ≡ tcRoundOf «record».now tc }
+    ensures { result.0 ≡ tc_round_of «record».now tc }
 {
     if tc == 0 {
         return Round(0);
@@ -427,7 +427,7 @@ fn tc_round_of(record: &[u8], tc: usize) -> Round
 }
 
 fn tc_high_of(record: &[u8], tc: usize) -> Round
-    ensures { result.0 ≡ tcHighOf «record».now tc }
+    ensures { result.0 ≡ tc_high_of «record».now tc }
 {
     if tc == 0 {
         return Round(0);

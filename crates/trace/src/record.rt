@@ -1,6 +1,6 @@
 // Taking one record off the front of a trace.
 ghost use Rattle.std.specs.Prelude.{◌≡◌};
-ghost use Rattle.trace.specs.Record.{splitOf, recordOf, rest_of};
+ghost use Rattle.trace.specs.Record.{split_of, record_of, rest_of};
 
 use crate::part::{after, middle};
 use certificates::num::u16_at;
@@ -9,7 +9,7 @@ use certificates::num::u16_at;
 pub const RECORD_MAX: usize = 4096;
 
 // What stands at the front of a trace.
-#[derive(Drop)]
+#[derive(Clone, Copy)]
 pub enum Front {
     // Nothing.
     End,
@@ -22,7 +22,7 @@ pub enum Front {
 }
 
 pub fn split(trace: &[u8]) -> Front
-    ensures { result ≡ splitOf trace.now }
+    ensures { result ≡ split_of trace.now }
 {
     if trace.len() < 1 {
         return Front::End;
@@ -50,7 +50,7 @@ pub fn split(trace: &[u8]) -> Front
 // The record at the front, as it lies in the trace: the kind and the body. Of one too small for a
 // kind, the bytes that there are; nothing where the run ends.
 pub fn record_of<'a>(trace: &'a [u8], front: Front) -> &'a [u8]
-    ensures { result.now ≡ recordOf front trace.now }
+    ensures { result.now ≡ record_of front trace.now }
 {
     match front {
         Front::End => &trace[..0],

@@ -11,7 +11,7 @@ use native.Mathlib.Omega.{arith}
 use borrow.Author.Tests.{ne_eqb, le-leb, lt-leb, leb-true}
 use lib.Dec.{eqb, leb}
 use lib.ListN.{length}
-use Rattle.outputs.specs.Records.{answer, answerSize, enc, encAll}
+use Rattle.outputs.specs.Records.{answer, answer_size, enc, enc_all}
 use Rattle.outputs.specs.Put.{Put}
 use Rattle.outputs.proofs.Wrote.{all_none, all_one, wrote_none, wrote_one}
 use Rattle.outputs.proofs.Sizes.{length-enc}
@@ -27,35 +27,35 @@ module _ (run : Run) (ahead : Ahead) (x : Stepped) (before : List ℕ) where
 
   -- nothing is written
   silent : closing ahead.met x (length before) ≡ [] → Closes run ahead x before (record { run = run'; written = x.written; met = ahead.met }) before
-  silent e = record { next = refl; met = refl; wrote = rw e (wrote_none answerSize before x.written) }
+  silent e = record { next = refl; met = refl; wrote = rw e (wrote_none answer_size before x.written) }
 
   pub close_more : ahead.met ≡ more → Closes run ahead x before (record { run = run'; written = x.written; met = ahead.met }) before
   close_more e = silent (rw e)
 
   module _ (e : ahead.met ≡ more → ⊥) where
-    pub close-small : length before < answerSize → Closes run ahead x before (record { run = run'; written = x.written; met = ahead.met }) before
-    close-small h = let k : length before < x.written + answerSize = omega arith in silent (rw (ne_eqb _ _ e, lt-leb _ _ k))
+    pub close-small : length before < answer_size → Closes run ahead x before (record { run = run'; written = x.written; met = ahead.met }) before
+    close-small h = let k : length before < x.written + answer_size = omega arith in silent (rw (ne_eqb _ _ e, lt-leb _ _ k))
 
-    module _ (h : answerSize ≤ length before) where
-      pub close-full : length before - answerSize < x.written → Closes run ahead x before (record { run = run'; written = x.written; met = ahead.met }) before
-      close-full l = let k : length before < x.written + answerSize = omega arith in silent (rw (ne_eqb _ _ e, lt-leb _ _ k))
+    module _ (h : answer_size ≤ length before) where
+      pub close-full : length before - answer_size < x.written → Closes run ahead x before (record { run = run'; written = x.written; met = ahead.met }) before
+      close-full l = let k : length before < x.written + answer_size = omega arith in silent (rw (ne_eqb _ _ e, lt-leb _ _ k))
 
-      pub close-answers : {after : List ℕ} {n : ℕ} → x.written ≤ length before - answerSize
-          → Put before x.written answerSize (enc (answer x.answer)) after n
+      pub close-answers : {after : List ℕ} {n : ℕ} → x.written ≤ length before - answer_size
+          → Put before x.written answer_size (enc (answer x.answer)) after n
           → Closes run ahead x before (record { run = run'; written = n; met = ahead.met }) after
       close-answers l p =
-          let k : x.written + answerSize ≤ length before = omega arith in
+          let k : x.written + answer_size ≤ length before = omega arith in
           record { next = refl; met = refl; wrote = rw (ne_eqb _ _ e, le-leb _ _ k) (wrote_one (answer x.answer) p) }
 
 -- ---- it fits
 
-fits_by : (z t : Bool) (n room written : ℕ) → t ≡ leb (written + answerSize) room → written ≤ room
-    → written + length (encAll (cond z [] (cond t (answer n ∷ []) []))) ≤ room
+fits_by : (z t : Bool) (n room written : ℕ) → t ≡ leb (written + answer_size) room → written ≤ room
+    → written + length (enc_all (cond z [] (cond t (answer n ∷ []) []))) ≤ room
 fits_by true t n room written e h = rw all_none (omega arith)
 fits_by false true n room written e h =
     let k = leb-true _ _ (sym e) in
     rw (all_one (answer n), length-enc (answer n)) k
 fits_by false false n room written e h = rw all_none (omega arith)
 
-pub closing-fits : (met : ℕ) (x : Stepped) (room : ℕ) → x.written ≤ room → x.written + length (encAll (closing met x room)) ≤ room
-closing-fits met x room h = fits_by (eqb met more) (leb (x.written + answerSize) room) x.answer room x.written refl h
+pub closing-fits : (met : ℕ) (x : Stepped) (room : ℕ) → x.written ≤ room → x.written + length (enc_all (closing met x room)) ≤ room
+closing-fits met x room h = fits_by (eqb met more) (leb (x.written + answer_size) room) x.answer room x.written refl h

@@ -3,7 +3,7 @@
 --     cut-long, cut-more                              what is met where the front is cut
 --     ahead-end, ahead-cut, ahead_small, ahead-record what is met, and where the record lies
 --     small-within, record-within                     a record ends in what was read
---     takenBy f, ahead-to                             the bytes that are taken, and that the next record starts behind them
+--     taken_by f, ahead-to                             the bytes that are taken, and that the next record starts behind them
 --     ahead-record-is                                 the record that the replica is asked for
 -- Assumes nothing.
 use Prim.Native.Nat.{ℕ, ◌+◌, ◌-◌, ◌≤◌, ◌<◌}
@@ -15,29 +15,29 @@ use lib.ListN.{length, drop, length-take}
 use lib.Seq.{take-take, drop-drop}
 use Rattle.certificates.specs.Num.{num_at}
 use Rattle.trace.specs.Part.{between}
-use Rattle.trace.specs.Record.{recordMax, splitOf, recordOf}
+use Rattle.trace.specs.Record.{record_max, split_of, record_of}
 use Rattle.trace.specs.declared.record.Front.{Front}
 use Rattle.trace.specs.declared.record.Front.TheVariants.{End, Cut, Small, Record}
 use Rattle.trace.proofs.Parts.{drop-take}
 use Rattle.trace.proofs.FrontLaws.{Bounds, front-bounds}
-use Rattle.turns.specs.Turn.{more, tooLong}
-use Rattle.turns.specs.Code.{cutMet, noneAt, one_at, aheadBy, ahead_of}
+use Rattle.turns.specs.Turn.{more, too_long}
+use Rattle.turns.specs.Code.{cut_met, none_at, one_at, ahead_by, ahead_of}
 
 -- ---- ways out
 
 module _ (s : List ℕ) {n : ℕ} (e : n ≡ num_at 2 s 0) where
-  pub cut-long : recordMax < n → tooLong ≡ cutMet s
+  pub cut-long : record_max < n → too_long ≡ cut_met s
   cut-long h = rw (← e, lt-ltb _ _ h)
 
-  pub cut-more : n ≤ recordMax → more ≡ cutMet s
+  pub cut-more : n ≤ record_max → more ≡ cut_met s
   cut-more h = rw (← e, le-ltb _ _ h)
 
-module _ (s : List ℕ) {f : Front} (p : f ≡ splitOf s) (at : ℕ) where
-  pub ahead-end : f ≡ End → noneAt more at ≡ ahead_of at s
+module _ (s : List ℕ) {f : Front} (p : f ≡ split_of s) (at : ℕ) where
+  pub ahead-end : f ≡ End → none_at more at ≡ ahead_of at s
   unfolding ahead_of
   ahead-end q = rw (← p, q)
 
-  pub ahead-cut : {part : List ℕ} {m : ℕ} → part ≡ s → f ≡ Cut → m ≡ cutMet part → noneAt m at ≡ ahead_of at s
+  pub ahead-cut : {part : List ℕ} {m : ℕ} → part ≡ s → f ≡ Cut → m ≡ cut_met part → none_at m at ≡ ahead_of at s
   unfolding ahead_of
   ahead-cut e q h = rw (← p, q, h, e)
 
@@ -54,7 +54,7 @@ module _ (s : List ℕ) {f : Front} (p : f ≡ splitOf s) (at : ℕ) where
 part_length : (at have : ℕ) (t : List ℕ) → length (between at have t) ≤ have - at
 part_length at have t = rw length-take (omega arith)
 
-module _ (at have : ℕ) (t : List ℕ) {f : Front} (p : f ≡ splitOf (between at have t)) where
+module _ (at have : ℕ) (t : List ℕ) {f : Front} (p : f ≡ split_of (between at have t)) where
   bounds : {g : Front} → f ≡ g → Bounds g (length (between at have t))
   bounds {g} q = front-bounds (between at have t) g (sym q ∙ p)
 
@@ -67,13 +67,13 @@ module _ (at have : ℕ) (t : List ℕ) {f : Front} (p : f ≡ splitOf (between 
 -- ---- the record that the replica is asked for
 
 -- the bytes that are taken
-abbrev pub takenBy : Front → ℕ
-takenBy End = 0
-takenBy Cut = 0
-takenBy (Small end) = end
-takenBy (Record kind end) = end
+abbrev pub taken_by : Front → ℕ
+taken_by End = 0
+taken_by Cut = 0
+taken_by (Small end) = end
+taken_by (Record kind end) = end
 
-pub ahead-to : (f : Front) (at : ℕ) (s : List ℕ) → (aheadBy f at s).to ≡ at + takenBy f
+pub ahead-to : (f : Front) (at : ℕ) (s : List ℕ) → (ahead_by f at s).to ≡ at + taken_by f
 ahead-to End at s = omega arith
 ahead-to Cut at s = omega arith
 ahead-to (Small end) at s = refl
@@ -89,8 +89,8 @@ module _ (at have : ℕ) (t : List ℕ) where
       let m : end - 2 ≤ (have - at) - 2 = omega arith in
       rw (z, drop-take 2 (have - at) (drop at t), drop-drop, take-take (end - 2) ((have - at) - 2) (drop (at + 2) t))
 
-  pub ahead-record-is : (f : Front) → f ≡ splitOf (between at have t)
-      → between (aheadBy f at (between at have t)).from (aheadBy f at (between at have t)).to t ≡ recordOf f (between at have t)
+  pub ahead-record-is : (f : Front) → f ≡ split_of (between at have t)
+      → between (ahead_by f at (between at have t)).from (ahead_by f at (between at have t)).to t ≡ record_of f (between at have t)
   ahead-record-is End p = none-there
   ahead-record-is Cut p = none-there
   ahead-record-is (Small end) p = let b = small-within at have t p refl in one-there end b.0 b.1

@@ -5,7 +5,7 @@
 --     Row, Uses   what the walk of `turn` needs of structs and callees; `turn-use` is for the crates above
 --     LedgerLaws  the output records of a whole trace, by its front
 --     Pieces      a trace that is read in pieces
---     Theorems    what a reader of the contract and of `ledgerOf` may rely on
+--     Theorems    what a reader of the contract and of `ledger_of` may rely on
 pub mod Fronts
 pub mod Closings
 pub mod TurnLaws

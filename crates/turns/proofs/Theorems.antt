@@ -6,7 +6,7 @@
 --     answers-fit            with 44 bytes a slot, 2,048 and 6 more, the ANSWER of every event of a run fits
 --     turn-answers           then a record that is taken gets its outputs and its ANSWER
 --     one-turn, in_pieces    the laws of Pieces, with that room: a turn, and the turns at the front of a piece
---     any-pieces             however the input comes in pieces, the turns write `ledgerOf` of the whole
+--     any-pieces             however the input comes in pieces, the turns write `ledger_of` of the whole
 -- Assumes nothing.
 use Prim.Native.Nat.{ℕ, ◌+◌, ◌-◌, ◌≤◌, ◌<◌}
 use mathlib.Core.Bool.{Bool, true, false, cond}
@@ -18,34 +18,34 @@ use lib.Dec.{ltb}
 use lib.ListN.{length, drop, length-take}
 use lib.Seq.{drop-append_seam}
 use Rattle.certificates.specs.Num.{num_at}
-use Rattle.certificates.specs.Error.{badRecord}
+use Rattle.certificates.specs.Error.{bad_record}
 use Rattle.trace.specs.Part.{between}
 use Rattle.trace.specs.Form.{form_of}
-use Rattle.trace.specs.Record.{recordMax, splitOf, framed}
+use Rattle.trace.specs.Record.{record_max, split_of, framed}
 use Rattle.trace.specs.declared.record.Front.{Front}
 use Rattle.trace.specs.declared.record.Front.TheVariants.{End, Cut, Small, Record}
 use Rattle.trace.specs.declared.events.Kind.{Kind}
 use Rattle.trace.proofs.FrontLaws.{Whole, front-bounds}
-use Rattle.outputs.specs.Records.{answer, answerSize, encAll}
+use Rattle.outputs.specs.Records.{answer, answer_size, enc_all}
 use Rattle.replica.specs.Started.{room_for}
-use Rattle.replica.specs.Step.{World, refusedIn, stepped}
+use Rattle.replica.specs.Step.{World, refused_in, stepped}
 use Rattle.replica.proofs.Theorems.{bad-record}
 use Rattle.replica.proofs.Sizes.{step-size, step-slots}
-use Rattle.turns.specs.Turn.{answered, answersIn, Turning, isTooLong, turned, turnedBy, Left, laidIn}
-use Rattle.turns.specs.Ledger.{eventAt, ledgerOf}
-use Rattle.turns.specs.Pieces.{playedOf, fedOf}
-use Rattle.turns.proofs.Fronts.{takenBy}
+use Rattle.turns.specs.Turn.{answered, answers_in, Turning, is_too_long, turned, turned_by, Left, laid_in}
+use Rattle.turns.specs.Ledger.{event_at, ledger_of}
+use Rattle.turns.specs.Pieces.{played_of, fed_of}
+use Rattle.turns.proofs.Fronts.{taken_by}
 use Rattle.turns.proofs.Pieces.{Answers, turned-event, event-answers, turn-then, trace-in-pieces, fed-all}
 
 -- two outcomes that the contract permits are one
-pub turn-unique : {a b : Left} (w : World) (s : List ℕ) (at have : ℕ) (out : List ℕ) → a ≡ laidIn (turned w (length out) s) at have out
-    → b ≡ laidIn (turned w (length out) s) at have out → a ≡ b
+pub turn-unique : {a b : Left} (w : World) (s : List ℕ) (at have : ℕ) (out : List ℕ) → a ≡ laid_in (turned w (length out) s) at have out
+    → b ≡ laid_in (turned w (length out) s) at have out → a ≡ b
 turn-unique w s at have out p q = p ∙ sym q
 
 -- the bytes past the written count are those that were there
-pub past-unchanged : (x : Turning) (at have : ℕ) (out : List ℕ) → drop (laidIn x at have out).written (laidIn x at have out).out ≡ drop (laidIn x at have out).written out
-unfolding laidIn
-past-unchanged x at have out = drop-append_seam (encAll x.outs) (drop (length (encAll x.outs)) out)
+pub past-unchanged : (x : Turning) (at have : ℕ) (out : List ℕ) → drop (laid_in x at have out).written (laid_in x at have out).out ≡ drop (laid_in x at have out).written out
+unfolding laid_in
+past-unchanged x at have out = drop-append_seam (enc_all x.outs) (drop (length (enc_all x.outs)) out)
 
 -- ---- what is taken
 
@@ -53,15 +53,15 @@ cut-taken : (long : Bool) (a b : Turning) (n : ℕ) → a.taken ≤ n → b.take
 cut-taken true a b n p q = p
 cut-taken false a b n p q = q
 
-taken-by : (w : World) (room : ℕ) (s : List ℕ) (f : Front) → f ≡ splitOf s → (turnedBy f w room s).taken ≤ length s
+taken-by : (w : World) (room : ℕ) (s : List ℕ) (f : Front) → f ≡ split_of s → (turned_by f w room s).taken ≤ length s
 taken-by w room s End p = omega arith
-taken-by w room s Cut p = cut-taken (isTooLong s) _ _ (length s) (omega arith) (omega arith)
+taken-by w room s Cut p = cut-taken (is_too_long s) _ _ (length s) (omega arith) (omega arith)
 taken-by w room s (Small end) p = (front-bounds s (Small end) p).1
 taken-by w room s (Record kind end) p = (front-bounds s (Record kind end) p).1
 
 pub taken-within : (w : World) (room : ℕ) (s : List ℕ) → (turned w room s).taken ≤ length s
 unfolding turned
-taken-within w room s = taken-by w room s (splitOf s) refl
+taken-within w room s = taken-by w room s (split_of s) refl
 
 -- .. so that what was read and not taken stays a part of the buffer
 pub at-within : (w : World) (room at have : ℕ) (t : List ℕ) → at ≤ have → at + (turned w room (between at have t)).taken ≤ have
@@ -85,30 +85,30 @@ short-by false false false true e k n p = tt
 short-by false false false false true k n p = let h : n < 2 = ltb-true n 2 (sym p) in omega arith
 short-by false false false false false k n p = tt
 
-short-end : (s : List ℕ) {end : ℕ} → Small end ≡ splitOf s → end < 4
-unfolding splitOf framed
+short-end : (s : List ℕ) {end : ℕ} → Small end ≡ split_of s → end < 4
+unfolding split_of framed
 short-end s {end} p =
     let n : ℕ = num_at 2 s 0 in
-    let h : Short (splitOf s) = short-by (ltb (length s) 1) (ltb (length s) 2) (ltb recordMax n) (ltb (length s) (n + 2)) (ltb n 2) (num_at 2 s 2) n refl in
+    let h : Short (split_of s) = short-by (ltb (length s) 1) (ltb (length s) 2) (ltb record_max n) (ltb (length s) (n + 2)) (ltb n 2) (num_at 2 s 2) n refl in
     rw (← p) at h
 
 short-form : (r : List ℕ) → length r < 2 → form_of r ≡ Kind.Bad
 unfolding form_of
 short-form r h = rw (lt-ltb _ _ h)
 
-pub short-record : (w : World) (room : ℕ) (s : List ℕ) {end : ℕ} → Small end ≡ splitOf s
-    → turned w room s ≡ record { met = answered; world = w; taken = end; outs = answersIn room [] badRecord }
+pub short-record : (w : World) (room : ℕ) (s : List ℕ) {end : ℕ} → Small end ≡ split_of s
+    → turned w room s ≡ record { met = answered; world = w; taken = end; outs = answers_in room [] bad_record }
 unfolding turned
 short-record w room s {end} p =
     let l : length (between 2 end s) < 2 = rw length-take (omega (arith, short-end s p)) in
-    let e : stepped w room (between 2 end s) ≡ refusedIn badRecord w = bad-record w room (between 2 end s) (short-form (between 2 end s) l) in
+    let e : stepped w room (between 2 end s) ≡ refused_in bad_record w = bad-record w room (between 2 end s) (short-form (between 2 end s) l) in
     rw (← p, e)
 
 -- ---- room for every ANSWER
 
 -- an output that has room for what an event over this table writes, and for its ANSWER
 abbrev pub Roomy : ℕ → World → Type 0
-Roomy room w = room_for (length w.table) + answerSize ≤ room
+Roomy room w = room_for (length w.table) + answer_size ≤ room
 
 pub answers-fit : (room : ℕ) → Answers room (Roomy room)
 answers-fit room =
@@ -118,20 +118,20 @@ answers-fit room =
     }
 
 module _ (room : ℕ) (w : World) (g : Roomy room w) where
-  pub turn-answers : (s : List ℕ) (f : Front) → f ≡ splitOf s → Whole f
+  pub turn-answers : (s : List ℕ) (f : Front) → f ≡ split_of s → Whole f
       → turned w room s
-      ≡ record { met = answered; world = (eventAt w room s).world; taken = takenBy f; outs = (eventAt w room s).outs ++ answer (eventAt w room s).answer ∷ [] }
+      ≡ record { met = answered; world = (event_at w room s).world; taken = taken_by f; outs = (event_at w room s).outs ++ answer (event_at w room s).answer ∷ [] }
   turn-answers s f p h = turned-event w room s f p h ∙ rw (event-answers (answers-fit room) w s g)
 
   -- one turn that takes a record, as the step of a loop over a buffer s with q still to come
   pub one-turn : (s q : List ℕ) → (turned w room s).met ≡ answered
-      → ledgerOf w room (s ++ q) ≡ (turned w room s).outs ++ ledgerOf (turned w room s).world room (drop (turned w room s).taken s ++ q)
+      → ledger_of w room (s ++ q) ≡ (turned w room s).outs ++ ledger_of (turned w room s).world room (drop (turned w room s).taken s ++ q)
   one-turn s q m = turn-then (answers-fit room) w s q g m
 
   pub in_pieces : (p q : List ℕ)
-      → ledgerOf w room (p ++ q)
-      ≡ (playedOf w room p).outs ++ cond (playedOf w room p).over [] (ledgerOf (playedOf w room p).world room ((playedOf w room p).rest ++ q))
+      → ledger_of w room (p ++ q)
+      ≡ (played_of w room p).outs ++ cond (played_of w room p).over [] (ledger_of (played_of w room p).world room ((played_of w room p).rest ++ q))
   in_pieces p q = trace-in-pieces (answers-fit room) w p q g
 
-  pub any-pieces : (ps : List (List ℕ)) → fedOf w room [] ps ≡ ledgerOf w room (flatten ps)
+  pub any-pieces : (ps : List (List ℕ)) → fed_of w room [] ps ≡ ledger_of w room (flatten ps)
   any-pieces ps = fed-all (answers-fit room) ps w g

@@ -22,7 +22,7 @@ use denote.Slice.{slice_val}
 use denote.Triple.Statement.{Contract, Triple}
 use denote.Triple.Spec.{triple_of}
 use Rattle.trace.specs.Part.{between}
-use Rattle.outputs.specs.Records.{answerSize}
+use Rattle.outputs.specs.Records.{answer_size}
 use Rattle.synchronizer.specs.declared.table.Slot.{Slot}
 use Rattle.synchronizer.proofs.Lent.{Gives, Nones, AsShr, AsMut, at_name, use-plain, use-one, one-loan, and-loan, use-all}
 use Rattle.synchronizer.proofs.Row.{slot}
@@ -35,7 +35,7 @@ use Rattle.turns.specs.declared.turn.Run.{Run}
 use Rattle.turns.specs.declared.turn.Turned.{Turned}
 use Rattle.turns.specs.declared.turn.Ahead.{Ahead}
 use Rattle.turns.specs.Turn as spec
-use Rattle.turns.specs.Turn.{leftBy, laidIn}
+use Rattle.turns.specs.Turn.{left_by, laid_in}
 use Rattle.turns.specs.Code.{ahead_of, order_at, Closes}
 use Rattle.turns.proofs.Row.{run_row, turned-row, ahead-row, run-makes, ahead-makes}
 use Rattle.turns.specs.contracts.turn.ahead_of as ahead-of-fn
@@ -93,14 +93,14 @@ module _ {M : Type 1} {𝓤 : Ura M} (𝓛 : Logic 𝓤) (mem : Memory → SProp
         → (b₆ o₆ m₆ : ℕ) (xs : List ℕ) {e₆ : Item 𝓤} → AsShr 𝓛 u8 b₆ o₆ m₆ xs e₆
         → (g : Run) (g-val : Val) → Is run_row g (g-val ∷ [])
         → Gives 𝓛 𝓣.C #turns·turn·turn (slice_val (b₁, o₁) m₁ ∷ slice_val (b₂, o₂) m₂ ∷ slice_val (b₃, o₃) m₃ ∷ slice_val (b₄, o₄) m₄ ∷ slice_val (b₅, o₅) m₅ ∷ slice_val (b₆, o₆) m₆ ∷ g-val ∷ []) (e₁ ⊛ (e₂ ⊛ (e₃ ⊛ (e₄ ⊛ (e₅ ⊛ e₆)))))
-        (λ z (x : Turned × (List ℕ × (List ℕ × (List ℕ × (List Slot × (List ℕ × (Unit {0} × Nones 1))))))). ((leftBy x.0 x.1.0 x.1.1.0 x.1.1.1.0 x.1.1.1.1.0 x.1.1.1.1.1.0 ≡ laidIn (spec.turned (world g.seat ks g.core vs ts ys) (length zs) (between g.at g.have xs)) g.at g.have zs) × (x.0.written ≤ length zs) × (x.0.written ≤ room_for (length ys) + answerSize))
+        (λ z (x : Turned × (List ℕ × (List ℕ × (List ℕ × (List Slot × (List ℕ × (Unit {0} × Nones 1))))))). ((left_by x.0 x.1.0 x.1.1.0 x.1.1.1.0 x.1.1.1.1.0 x.1.1.1.1.1.0 ≡ laid_in (spec.turned (world g.seat ks g.core vs ts ys) (length zs) (between g.at g.have xs)) g.at g.have zs) × (x.0.written ≤ length zs) × (x.0.written ≤ room_for (length ys) + answer_size))
         × (((length x.1.0 ≡ m₁) × ((length x.1.1.0 ≡ m₂) × ((length x.1.1.1.0 ≡ m₃) × ((length x.1.1.1.1.0 ≡ m₄) × ((length x.1.1.1.1.1.0 ≡ m₅) × Unit {0}))))) × Is turned-row x.0 (z ∷ [])))
         (λ x. after₁ x.1.0 ⊛ (after₂ x.1.1.0 ⊛ (after₃ x.1.1.1.0 ⊛ (after₄ x.1.1.1.1.0 ⊛ (after₅ x.1.1.1.1.1.0 ⊛ e₆)))))
     turn-use known b₁ o₁ m₁ ks L₁ b₂ o₂ m₂ vs L₂ b₃ o₃ m₃ ts L₃ b₄ o₄ m₄ ys L₄ b₅ o₅ m₅ zs L₅ b₆ o₆ m₆ xs L₆ g g-val g-is =
         use-all 𝓛 fm #turns·turn·turn (slice_val (b₁, o₁) m₁ ∷ slice_val (b₂, o₂) m₂ ∷ slice_val (b₃, o₃) m₃ ∷ slice_val (b₄, o₄) m₄ ∷ slice_val (b₅, o₅) m₅ ∷ slice_val (b₆, o₆) m₆ ∷ g-val ∷ [])
         (run_row ∷ []) (run-makes 𝓛, tt) (g, tt) (g-val ∷ [], tt) (g-is, tt) turned-row (emp 𝓤) (id⊢ 𝓤 (emp 𝓤))
         (and-loan 𝓛 L₁ (and-loan 𝓛 L₂ (and-loan 𝓛 L₃ (and-loan 𝓛 L₄ (and-loan 𝓛 L₅ (one-loan 𝓛 L₆ 1 (owns (run_row ∷ []) (g, tt) (g-val ∷ [], tt)) (owns_make 𝓛 (run_row ∷ []) (Ises (run_row ∷ [])) (run-makes 𝓛, tt) (g, tt) (g-val ∷ [], tt) (g-is, tt))))))))
-        (λ r l. (leftBy r l.0 l.1.0 l.1.1.0 l.1.1.1.0 l.1.1.1.1.0 ≡ laidIn (spec.turned (world g.seat ks g.core vs ts ys) (length zs) (between g.at g.have xs)) g.at g.have zs) × (r.written ≤ length zs) × (r.written ≤ room_for (length ys) + answerSize))
+        (λ r l. (left_by r l.0 l.1.0 l.1.1.0 l.1.1.1.0 l.1.1.1.1.0 ≡ laid_in (spec.turned (world g.seat ks g.core vs ts ys) (length zs) (between g.at g.have xs)) g.at g.have zs) × (r.written ≤ length zs) × (r.written ≤ room_for (length ys) + answer_size))
         (λ p. known (
           (
             (L₁.lft p.0, (L₂.lft p.1.0, (L₃.lft p.1.1.0, (L₄.lft p.1.1.1.0, (L₅.lft p.1.1.1.1.0, (L₆.lft p.1.1.1.1.1, tt)))))),

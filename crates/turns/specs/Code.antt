@@ -1,50 +1,50 @@
 -- How the code goes about a turn: what stands at the front, an event, and the ANSWER. `proofs.TurnLaws` shows that the three together are
 -- `turned`.
---     cutMet s                  what is met where the front s is cut
---     noneAt met at, one_at at end       no record; a record that ends `end` bytes after `at`
---     aheadBy f at s, ahead_of at s      what is met, and where the record lies, in a buffer in which the front s begins at `at`
+--     cut_met s                  what is met where the front s is cut
+--     none_at met at, one_at at end       no record; a record that ends `end` bytes after `at`
+--     ahead_by f at s, ahead_of at s      what is met, and where the record lies, in a buffer in which the front s begins at `at`
 --     order_at run ahead        the event that the replica is asked for
 --     closing met x room        the ANSWER that is written behind what an event wrote
 --     Closes                    what the code did that writes it
 use Rattle.std.specs.Prelude.{ℕ, ◌+◌, cond, List, [], ◌∷◌, ◌≡◌, eqb, leb, length}
-use Rattle.trace.specs.Record.{splitOf}
+use Rattle.trace.specs.Record.{split_of}
 use Rattle.trace.specs.declared.record.Front.{Front}
 use Rattle.trace.specs.declared.record.Front.TheVariants.{End, Cut, Small, Record}
-use Rattle.outputs.specs.Records.{Rec, answer, answerSize}
+use Rattle.outputs.specs.Records.{Rec, answer, answer_size}
 use Rattle.outputs.specs.Put.{Wrote}
 use Rattle.replica.specs.declared.stages.Stepped.{Stepped}
 use Rattle.replica.specs.declared.step.Order.{Order}
-use Rattle.turns.specs.Turn.{answered, more, tooLong, isTooLong}
+use Rattle.turns.specs.Turn.{answered, more, too_long, is_too_long}
 use Rattle.turns.specs.declared.turn.Run.{Run}
 use Rattle.turns.specs.declared.turn.Turned.{Turned}
 use Rattle.turns.specs.declared.turn.Ahead.{Ahead}
 
-abbrev pub cutMet : List ℕ → ℕ
-cutMet s = cond (isTooLong s) tooLong more
+abbrev pub cut_met : List ℕ → ℕ
+cut_met s = cond (is_too_long s) too_long more
 
 -- no record: an empty one
-abbrev pub noneAt : ℕ → ℕ → Ahead
-noneAt met at = record { met = met; from = at; to = at }
+abbrev pub none_at : ℕ → ℕ → Ahead
+none_at met at = record { met = met; from = at; to = at }
 
 abbrev pub one_at : ℕ → ℕ → Ahead
 one_at at end = record { met = answered; from = at + 2; to = at + end }
 
-abbrev pub aheadBy : Front → ℕ → List ℕ → Ahead
-aheadBy End at s = noneAt more at
-aheadBy Cut at s = noneAt (cutMet s) at
-aheadBy (Small end) at s = one_at at end
-aheadBy (Record kind end) at s = one_at at end
+abbrev pub ahead_by : Front → ℕ → List ℕ → Ahead
+ahead_by End at s = none_at more at
+ahead_by Cut at s = none_at (cut_met s) at
+ahead_by (Small end) at s = one_at at end
+ahead_by (Record kind end) at s = one_at at end
 
 unfoldable pub ahead_of : ℕ → List ℕ → Ahead
-ahead_of at s = aheadBy (splitOf s) at s
+ahead_of at s = ahead_by (split_of s) at s
 
 abbrev pub order_at : Run → Ahead → Order
 order_at run ahead = record { seat = run.seat; core = run.core; from = ahead.from; to = ahead.to }
 
 abbrev pub closing : ℕ → Stepped → ℕ → List Rec
-closing met x room = cond (eqb met more) [] (cond (leb (x.written + answerSize) room) (answer x.answer ∷ []) [])
+closing met x room = cond (eqb met more) [] (cond (leb (x.written + answer_size) room) (answer x.answer ∷ []) [])
 
 pub record Closes (run : Run) (ahead : Ahead) (x : Stepped) (before : List ℕ) (r : Turned) (after : List ℕ) : Type 0 where
   pub next : r.run ≡ record { seat = x.seat; core = x.core; at = ahead.to; have = run.have }
   pub met : r.met ≡ ahead.met
-  pub wrote : Wrote answerSize (closing ahead.met x (length before)) before x.written after r.written
+  pub wrote : Wrote answer_size (closing ahead.met x (length before)) before x.written after r.written

@@ -1,14 +1,14 @@
 -- A trace that is read in pieces: turns until there is no whole record at the front, then the next piece.
 --     Played                    whether the run is over, the world that is left, what was read and not taken, the records that were written
 --     onward t s y              a turn t at the front of s, and then y
---     playedIn n w room s       turns at the front of s, n at most
---     playedOf w room s         turns until there is no whole record. A record takes 2 bytes or more, so that as many turns as there are bytes are enough
---     fedOf w room s ps         what is written where s is left of what was read and the pieces ps are still to come
+--     played_in n w room s       turns at the front of s, n at most
+--     played_of w room s         turns until there is no whole record. A record takes 2 bytes or more, so that as many turns as there are bytes are enough
+--     fed_of w room s ps         what is written where s is left of what was read and the pieces ps are still to come
 use Rattle.std.specs.Prelude.{ℕ, zero, suc, Bool, false, cond, List, [], ◌∷◌, ◌++◌, eqb, length, drop}
-use Rattle.certificates.specs.Error.{badRecord}
+use Rattle.certificates.specs.Error.{bad_record}
 use Rattle.outputs.specs.Records.{Rec, answer}
 use Rattle.replica.specs.Step.{World}
-use Rattle.turns.specs.Turn.{answered, tooLong, Turning, turned}
+use Rattle.turns.specs.Turn.{answered, too_long, Turning, turned}
 
 pub record Played : Type 0 where
   pub over : Bool
@@ -20,18 +20,18 @@ pub record Played : Type 0 where
 abbrev pub onward : Turning → List ℕ → Played → Played
 onward t s y =
     cond (eqb t.met answered) (record { over = y.over; world = y.world; rest = y.rest; outs = t.outs ++ y.outs })
-    (record { over = eqb t.met tooLong; world = t.world; rest = s; outs = t.outs })
+    (record { over = eqb t.met too_long; world = t.world; rest = s; outs = t.outs })
 
-unfoldable pub playedIn : ℕ → World → ℕ → List ℕ → Played
-playedIn zero w room s = record { over = false; world = w; rest = s; outs = [] }
-playedIn (suc n) w room s = onward (turned w room s) s (playedIn n (turned w room s).world room (drop (turned w room s).taken s))
+unfoldable pub played_in : ℕ → World → ℕ → List ℕ → Played
+played_in zero w room s = record { over = false; world = w; rest = s; outs = [] }
+played_in (suc n) w room s = onward (turned w room s) s (played_in n (turned w room s).world room (drop (turned w room s).taken s))
 
-unfoldable pub playedOf : World → ℕ → List ℕ → Played
-playedOf w room s = playedIn (length s) w room s
+unfoldable pub played_of : World → ℕ → List ℕ → Played
+played_of w room s = played_in (length s) w room s
 
 -- "a record cut by the end gets ANSWER 16 and ends the run": where no piece is left, anything that is left of what was read is such a record
-unfoldable pub fedOf : World → ℕ → List ℕ → List (List ℕ) → List Rec
-fedOf w room s [] = cond (eqb (length s) 0) [] (answer badRecord ∷ [])
-fedOf w room s (p ∷ ps) =
-    (playedOf w room (s ++ p)).outs
-    ++ cond (playedOf w room (s ++ p)).over [] (fedOf (playedOf w room (s ++ p)).world room (playedOf w room (s ++ p)).rest ps)
+unfoldable pub fed_of : World → ℕ → List ℕ → List (List ℕ) → List Rec
+fed_of w room s [] = cond (eqb (length s) 0) [] (answer bad_record ∷ [])
+fed_of w room s (p ∷ ps) =
+    (played_of w room (s ++ p)).outs
+    ++ cond (played_of w room (s ++ p)).over [] (fed_of (played_of w room (s ++ p)).world room (played_of w room (s ++ p)).rest ps)

@@ -1,20 +1,20 @@
 -- One turn of a run, from the bytes at the front of what was read. 01, The trace form: "A record is a two-byte length (bytes after it), a
 -- two-byte kind, a body.", "Taking one record off hands back the unread rest of the caller's buffer."
---     answered, more, tooLong       what a turn meets: a record; no whole record; a length above the most
---     isTooLong s                   whether the length at the front of s is above the most
---     answersIn room outs n         the ANSWER behind these outputs, in an output of `room` bytes
+--     answered, more, too_long       what a turn meets: a record; no whole record; a length above the most
+--     is_too_long s                   whether the length at the front of s is above the most
+--     answers_in room outs n         the ANSWER behind these outputs, in an output of `room` bytes
 --     Turning                       what is met, the world that is left, the bytes that are taken, the records that are written
 --     waiting w, taking end room x            a turn that finds no whole record; one that takes a record of which the replica made x
---     turnedBy f w room s, turned w room s    a turn, where f stands at the front of s
---     Left, laidIn x at have out    a turn laid into a buffer: the run, and every byte of the output
---     leftBy                        what code hands back
+--     turned_by f w room s, turned w room s    a turn, where f stands at the front of s
+--     Left, laid_in x at have out    a turn laid into a buffer: the run, and every byte of the output
+--     left_by                        what code hands back
 use Rattle.std.specs.Prelude.{ℕ, ◌+◌, Bool, cond, List, [], ◌∷◌, ◌++◌, ltb, leb, length, drop}
 use Rattle.certificates.specs.Num.{num_at}
-use Rattle.certificates.specs.Error.{badRecord}
-use Rattle.trace.specs.Record.{recordMax, splitOf, recordOf}
+use Rattle.certificates.specs.Error.{bad_record}
+use Rattle.trace.specs.Record.{record_max, split_of, record_of}
 use Rattle.trace.specs.declared.record.Front.{Front}
 use Rattle.trace.specs.declared.record.Front.TheVariants.{End, Cut, Small, Record}
-use Rattle.outputs.specs.Records.{Rec, answer, answerSize, encAll}
+use Rattle.outputs.specs.Records.{Rec, answer, answer_size, enc_all}
 use Rattle.synchronizer.specs.declared.table.Slot.{Slot}
 use Rattle.replica.specs.Step.{World, Result, world, stepped}
 use Rattle.turns.specs.declared.turn.Turned.{Turned}
@@ -25,16 +25,16 @@ answered = 0
 abbrev pub more : ℕ
 more = 1
 
-abbrev pub tooLong : ℕ
-tooLong = 2
+abbrev pub too_long : ℕ
+too_long = 2
 
 -- "Length is 2 to 4,096."
-abbrev pub isTooLong : List ℕ → Bool
-isTooLong s = ltb recordMax (num_at 2 s 0)
+abbrev pub is_too_long : List ℕ → Bool
+is_too_long s = ltb record_max (num_at 2 s 0)
 
 -- "ANSWER | number 2; added by the program after each event". In an output that has no room left for it there is none.
-abbrev pub answersIn : ℕ → List Rec → ℕ → List Rec
-answersIn room outs n = cond (leb (length (encAll outs) + answerSize) room) (answer n ∷ []) []
+abbrev pub answers_in : ℕ → List Rec → ℕ → List Rec
+answers_in room outs n = cond (leb (length (enc_all outs) + answer_size) room) (answer n ∷ []) []
 
 pub record Turning : Type 0 where
   pub met : ℕ
@@ -48,19 +48,19 @@ waiting w = record { met = more; world = w; taken = 0; outs = [] }
 
 -- a record that ends at `end`, and what the replica made of it
 abbrev pub taking : ℕ → ℕ → Result → Turning
-taking end room x = record { met = answered; world = x.world; taken = end; outs = x.outs ++ answersIn room x.outs x.answer }
+taking end room x = record { met = answered; world = x.world; taken = end; outs = x.outs ++ answers_in room x.outs x.answer }
 
 -- "A length above 4,096 or a record cut by the end gets ANSWER 16 and ends the run. Any other bad record gets 16 and the next is read." Whether
 -- the input ends is not known here, so that a record of which a part is missing is waited for.
-abbrev pub turnedBy : Front → World → ℕ → List ℕ → Turning
-turnedBy End w room s = waiting w
-turnedBy Cut w room s =
-    cond (isTooLong s) (record { met = tooLong; world = w; taken = 0; outs = answersIn room [] badRecord }) (waiting w)
-turnedBy (Small end) w room s = taking end room (stepped w room (recordOf (Small end) s))
-turnedBy (Record kind end) w room s = taking end room (stepped w room (recordOf (Record kind end) s))
+abbrev pub turned_by : Front → World → ℕ → List ℕ → Turning
+turned_by End w room s = waiting w
+turned_by Cut w room s =
+    cond (is_too_long s) (record { met = too_long; world = w; taken = 0; outs = answers_in room [] bad_record }) (waiting w)
+turned_by (Small end) w room s = taking end room (stepped w room (record_of (Small end) s))
+turned_by (Record kind end) w room s = taking end room (stepped w room (record_of (Record kind end) s))
 
 unfoldable pub turned : World → ℕ → List ℕ → Turning
-turned w room s = turnedBy (splitOf s) w room s
+turned w room s = turned_by (split_of s) w room s
 
 -- ---- every byte
 
@@ -73,19 +73,19 @@ pub record Left : Type 0 where
   pub out : List ℕ
 
 -- the bytes of the records, and past them what was there; `at` moves behind the record that was taken
-unfoldable pub laidIn : Turning → ℕ → ℕ → List ℕ → Left
-laidIn x at have out =
+unfoldable pub laid_in : Turning → ℕ → ℕ → List ℕ → Left
+laid_in x at have out =
     record {
       met = x.met;
       world = x.world;
       at = at + x.taken;
       have = have;
-      written = length (encAll x.outs);
-      out = encAll x.outs ++ drop (length (encAll x.outs)) out;
+      written = length (enc_all x.outs);
+      out = enc_all x.outs ++ drop (length (enc_all x.outs)) out;
     }
 
-abbrev pub leftBy : Turned → List ℕ → List ℕ → List ℕ → List Slot → List ℕ → Left
-leftBy r stakes votes timeouts table out =
+abbrev pub left_by : Turned → List ℕ → List ℕ → List ℕ → List Slot → List ℕ → Left
+left_by r stakes votes timeouts table out =
     record {
       met = r.met;
       world = world r.run.seat stakes r.run.core votes timeouts table;

@@ -2,11 +2,11 @@
 // turn leaves in the output; nothing here reads or writes anything else.
 ghost use Rattle.std.specs.Prelude.{◌≡◌, ◌+◌, ◌≤◌, length};
 ghost use Rattle.trace.specs.Part.{between};
-ghost use Rattle.outputs.specs.Records.{answerSize};
+ghost use Rattle.outputs.specs.Records.{answer_size};
 ghost use Rattle.replica.specs.Started.{room_for};
 ghost use Rattle.replica.specs.Step.{world};
-ghost use Rattle.turns.specs.Turn.{turned, laidIn, leftBy};
-ghost use Rattle.turns.specs.Code.{cutMet, ahead_of, order_at, Closes};
+ghost use Rattle.turns.specs.Turn.{turned, laid_in, left_by};
+ghost use Rattle.turns.specs.Code.{cut_met, ahead_of, order_at, Closes};
 
 use certificates::num::u16_at;
 use moves::state::Core;
@@ -29,7 +29,7 @@ pub const TOO_LONG: u8 = 2;
 
 // The replica's part by value, and the bytes of the buffer that were read and not taken: those from
 // `at` up to `have`, as far as the buffer has them.
-#[derive(Drop)]
+#[derive(Clone, Copy)]
 pub struct Run {
     pub seat: Seat,
     pub core: Core,
@@ -38,7 +38,7 @@ pub struct Run {
 }
 
 // What a turn leaves: the run, the bytes of the output that were written, and what was met.
-#[derive(Drop)]
+#[derive(Clone, Copy)]
 pub struct Turned {
     pub run: Run,
     pub written: usize,
@@ -47,7 +47,7 @@ pub struct Turned {
 
 // What stands at the front: what is met, where the record lies, and that the next one starts where
 // it ends. Where no record is to be taken, none lies at the front, and nothing is skipped.
-#[derive(Drop)]
+#[derive(Clone, Copy)]
 pub struct Ahead {
     pub met: u8,
     pub from: usize,
@@ -56,7 +56,7 @@ pub struct Ahead {
 
 // A front that is cut: a length above the most ends the run, and else more may come.
 fn cut_met(part: &[u8]) -> u8
-    ensures { result ≡ cutMet part.now }
+    ensures { result ≡ cut_met part.now }
 {
     if RECORD_MAX < u16_at(part, 0) as usize {
         return TOO_LONG;
@@ -150,7 +150,7 @@ pub fn turn(
     trace: &[u8],
     run: Run,
 ) -> Turned
-    ensures { (leftBy result stakes.new votes.new timeouts.new table.new out.new ≡ laidIn (turned (world run.seat stakes.old run.core votes.old timeouts.old table.old) (length out.old) (between run.at run.have trace.now)) run.at run.have out.old) × (result.written ≤ length out.old) × (result.written ≤ room_for (length table.old) + answerSize) }
+    ensures { (left_by result stakes.new votes.new timeouts.new table.new out.new ≡ laid_in (turned (world run.seat stakes.old run.core votes.old timeouts.old table.old) (length out.old) (between run.at run.have trace.now)) run.at run.have out.old) × (result.written ≤ length out.old) × (result.written ≤ room_for (length table.old) + answer_size) }
 {
     let ahead = ahead_of(trace, run);
     let order = order_for(run, ahead);

@@ -3,7 +3,7 @@
 use native.Mathlib.Omega.{arith}
 use lib.ListN.{length-set}
 use Rattle.aggregator.proofs.Rows.{sets-whole}
-use Rattle.nickelhush.specs.Memory.{coreNumbers}
+use Rattle.nickelhush.specs.Memory.{core_numbers}
 use borrow.Author.Rules.{rules}
 use Rattle.nickelhush.proofs.memory.core_out.Statement.{statement}
 use Rattle.nickelhush.proofs.memory.core_out.Tie as tie
@@ -39,7 +39,7 @@ same_length : tie.Need-same-length
 same_length c = search rules
 
 returns : tie.Need-returns
-returns c = sets-whole c.before.before.args.core.now (coreNumbers c.before.before.args.c) c.before.before.requires
+returns c = sets-whole c.before.before.args.core.now (core_numbers c.before.before.args.c) c.before.before.requires
 
 pub core-out-spec : {M : Type 1} → statement M
 core-out-spec =

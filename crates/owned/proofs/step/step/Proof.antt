@@ -39,7 +39,7 @@ use Rattle.replica.specs.Started.{room_for}
 use Rattle.replica.specs.Step.{laid, stepped}
 use Rattle.owned.specs.declared.record.Replica.{Replica}
 use Rattle.owned.specs.declared.record.Handed.{Handed}
-use Rattle.owned.specs.Record.{worldOf, handedLeft}
+use Rattle.owned.specs.Record.{world_of, handed_left}
 use Rattle.owned.proofs.HandedLaws.{ask-room, close-needs, handed-left, handed-room}
 use Rattle.owned.proofs.Row.{replica, replica-mach, replica-vals, replica-tells, replica-makes, replica-typed, opened-typed, handed, handed-makes, handed-typed}
 use Rattle.owned.proofs.Uses as U
@@ -98,7 +98,7 @@ module _ {M : Type 1} {𝓤 : Ura M} (𝓛 : Logic 𝓤) (mem : Memory → SProp
   abbrev slices : List Slot → List ℕ → List (Lft × (Share × Fml))
   slices ys' zs' = (κ₁, (q₁, OwnMut slot (named 0) κ₁ b₁ o₁ (length ys) γ₁ ys')) ∷ (κ₂, (q₂, OwnMut u8 (named 1) κ₂ b₂ o₂ (length zs) γ₂ zs')) ∷ (κ₃, (q₃, OwnShr u8 (named 2) κ₃ b₃ o₃ (length xs) γ₃ xs)) ∷ []
 
-  exits : (h : Handed) (z : Val) → Is handed h (z ∷ []) → (ys' : List Slot) (zs' : List ℕ) → (handedLeft h ys' zs' ≡ laid (stepped (worldOf r ys) (length zs) xs) zs) × (h.written ≤ room_for (length ys))
+  exits : (h : Handed) (z : Val) → Is handed h (z ∷ []) → (ys' : List Slot) (zs' : List ℕ) → (handed_left h ys' zs' ≡ laid (stepped (world_of r ys) (length zs) xs) zs) × (h.written ≤ room_for (length ys))
       → length ys' ≡ length ys → length zs' ≡ length zs → ent 𝓤 (⋆ 𝓛 (entries 𝓛 (slices ys' zs'))) (Post z)
   exits h z is ys' zs' e l₁ l₂ =
       via 𝓤 _ (at-end-all 𝓛 (replica ∷ []) (replica-makes 𝓛, tt) (r, tt) (replica-mach r ∷ [], tt) (r-is, tt) handed (handed-makes 𝓛) h z is e (slices ys' zs'))

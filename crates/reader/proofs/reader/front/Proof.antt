@@ -42,7 +42,7 @@ use denote.Triple.Table.{entered, cited}
 use denote.Triple.Walked.{says, Stays, stay_none, walk_of, Goes-none, Walks, ends_at, walked, walk_Meets}
 use denote.Exit.{yes}
 use denote.Triple.Clauses.{ensured, lasts}
-use Rattle.reader.specs.Place.{frontAt}
+use Rattle.reader.specs.Place.{front_at}
 use Rattle.reader.specs.declared.reader.Reader.{Reader}
 use Rattle.trace.specs.declared.record.Front.{Front}
 use Rattle.reader.specs.contracts.reader.Reader as T
@@ -81,7 +81,7 @@ module _ {M : Type 1} {𝓤 : Ura M} (𝓛 : Logic 𝓤) (mem : Memory → SProp
   v = slice_val d.src.ref_ptr (length d.src.now)
 
   abbrev found : Front
-  found = frontAt d.src.now d.at
+  found = front_at d.src.now d.at
 
   abbrev Post : Val → SProp 𝓤
   Post = (walk_of 𝓛 front.ended stayed (front.clauses 𝓛 mem run)).post (((κ, tt), (q, tt), tt, (d, tt), (mach ∷ [], tt)), tt)

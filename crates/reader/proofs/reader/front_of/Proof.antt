@@ -38,7 +38,7 @@ use denote.Triple.Table.{entered, cited}
 use denote.Triple.Walked.{says, Stays, stay_none, stay_none_slice, walk_of, Goes-none, Goes-none_slice, Walks, ends_at, walked, walk_Meets}
 use denote.Exit.{yes}
 use denote.Triple.Clauses.{ensured, lasts}
-use Rattle.reader.specs.Place.{frontAt}
+use Rattle.reader.specs.Place.{front_at}
 use Rattle.reader.specs.declared.reader.Reader.{Reader}
 use Rattle.trace.specs.declared.record.Front.{Front}
 use Rattle.reader.specs.contracts.reader.Reader as T
@@ -81,7 +81,7 @@ module _ {M : Type 1} {𝓤 : Ura M} (𝓛 : Logic 𝓤) (mem : Memory → SProp
   v = slice_val s.ref_ptr (length s.now)
 
   abbrev found : Front
-  found = frontAt s.now n
+  found = front_at s.now n
 
   abbrev at : Vals front_of.signature (κ, tt)
   at = (v ∷ [], (vint w64 n ∷ [], tt))
@@ -116,8 +116,8 @@ module _ {M : Type 1} {𝓤 : Ura M} (𝓛 : Logic 𝓤) (mem : Memory → SProp
   goes-front : (r : Reader) (u : Val) → ent 𝓤 (⋆ 𝓛 (‵ ((B (κ, tt)).own r (u ∷ [])) ∷ (‵ (flft κ q) ⊛ ‵ ftrue) ∷ [])) ((FrontMet 𝓛 mem run).pre (to_front r u))
   goes-front r u = qed 𝓛 (‵ ((B (κ, tt)).own r (u ∷ [])) ∷ (‵ (flft κ q) ⊛ ‵ ftrue) ∷ []) ∵ nothing ! $ move ! (1 ∷ 0 ∷ []) $ fjoin ! $ move ! (1 ∷ 0 ∷ []) $ join ! $ frame ! $ done !
 
-  front-said : (r : Reader) (t : Front) → ent 𝓤 (ensured 𝓛 front.ended (front.clauses 𝓛 mem run) (κ, tt) (r, tt) tt t) (fact 𝓤 (t ≡ frontAt r.src.now r.at))
-  front-said r t = ex_e 𝓤 _ (λ ws. snd∗ 𝓤 (sem 𝓛 (lasts front.ended (κ, tt) (r, tt) ws)) (fact 𝓤 (t ≡ frontAt r.src.now r.at)))
+  front-said : (r : Reader) (t : Front) → ent 𝓤 (ensured 𝓛 front.ended (front.clauses 𝓛 mem run) (κ, tt) (r, tt) tt t) (fact 𝓤 (t ≡ front_at r.src.now r.at))
+  front-said r t = ex_e 𝓤 _ (λ ws. snd∗ 𝓤 (sem 𝓛 (lasts front.ended (κ, tt) (r, tt) ws)) (fact 𝓤 (t ≡ front_at r.src.now r.at)))
 
   exits : (t : Front) (u : Val) → t ≡ found → ent 𝓤 (⋆ 𝓛 (‵ ((S.the_row).own_val t (u ∷ [])) ∷ (‵ (flft κ q) ⊛ ‵ ftrue) ∷ ‵ Own ∷ [])) (Post u)
   exits t u e =
@@ -140,12 +140,12 @@ module _ {M : Type 1} {𝓤 : Ura M} (𝓛 : Logic 𝓤) (mem : Memory → SProp
         use2 𝓛 (raw ((FrontMet 𝓛 mem run).pre (to_front r u))) (goes-front r u) $
         calls_at ! fm (FrontMet 𝓛 mem run) known-front (to_front r u) (and_then ! (load ! (from ! (stop !)) (look ! 2 refl)) (no_more !)) (λ u'.
         use1 𝓛 (later (some (λ (t : Front). ((‵ (flft κ q) ⊛ ‵ ftrue) ⊛ ‵ ((S.the_row).own_val t (u' ∷ []))) ⊛ raw (ensured 𝓛 front.ended (front.clauses 𝓛 mem run) (κ, tt) (r, tt) tt t)))) (id⊢ 𝓤 _) $ await ! tt $ pick ! (λ t.
-        split ! $ move ! (1 ∷ []) $ use1 𝓛 (raw (fact 𝓤 (t ≡ frontAt r.src.now r.at))) (front-said r t) $ heard ! (t ≡ frontAt r.src.now r.at) (λ e'. split ! $ move ! (1 ∷ []) $
+        split ! $ move ! (1 ∷ []) $ use1 𝓛 (raw (fact 𝓤 (t ≡ front_at r.src.now r.at))) (front-said r t) $ heard ! (t ≡ front_at r.src.now r.at) (λ e'. split ! $ move ! (1 ∷ []) $
         -- [the result; the token; what s owns; _3; …; _2; …; _1; …; room for _0; …]
         peeks ! S.the_row (Is S.the_row) (shows 𝓛 S.the_row) t (u' ∷ []) (λ is'.
         land ! (from ! (stop !)) (init ! 9 refl ((EL.lawful S.the_type S'.the_laws 𝓛 tt).typed t _ is').0) $
         returns ! (look ! 9 refl) $ forget ! 3 refl $ forget ! 5 refl $ forget ! 7 refl $ forget ! 9 refl $ move ! (9 ∷ 10 ∷ []) $ free1 ! $ move ! (7 ∷ 8 ∷ []) $ free1 ! $ move ! (5 ∷ 6 ∷ []) $ free1 ! $ move ! (3 ∷ 4 ∷ []) $ free1 ! $ free0 ! $
-        by ! (exits t u' (e' ∙ (ap (λ (x : Bor (List ℕ)). frontAt x.now r.at) e.0 ∙ ap (frontAt s.now) e.1)))))))))))))))
+        by ! (exits t u' (e' ∙ (ap (λ (x : Bor (List ℕ)). front_at x.now r.at) e.0 ∙ ap (front_at s.now) e.1)))))))))))))))
 
 module _ {M : Type 1} {𝓤 : Ura M} (𝓛 : Logic 𝓤) (mem : Memory → SProp 𝓤) (run : Routine → Fun 𝓤) where
   open 𝓛 use {H}

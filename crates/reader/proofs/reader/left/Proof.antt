@@ -41,7 +41,7 @@ use denote.Triple.Table.{entered, cited}
 use denote.Triple.Walked.{says, Stays, stay_none, walk_of, Goes-none, Walks, ends_at, walked, walk_Meets}
 use denote.Exit.{yes}
 use denote.Triple.Clauses.{ensured, lasts}
-use Rattle.reader.specs.Place.{leftAt}
+use Rattle.reader.specs.Place.{left_at}
 use Rattle.reader.specs.declared.reader.Reader.{Reader}
 use Rattle.reader.specs.contracts.reader.Reader as T
 use Rattle.reader.proofs.reader.Reader.TheLaws as T'
@@ -77,7 +77,7 @@ module _ {M : Type 1} {𝓤 : Ura M} (𝓛 : Logic 𝓤) (mem : Memory → SProp
   v = slice_val d.src.ref_ptr (length d.src.now)
 
   abbrev found : ℕ
-  found = leftAt d.src.now d.at
+  found = left_at d.src.now d.at
 
   abbrev Post : Val → SProp 𝓤
   Post = (walk_of 𝓛 left.ended stayed (left.clauses 𝓛 mem run)).post (((κ, tt), (q, tt), tt, (d, tt), (mach ∷ [], tt)), tt)

@@ -38,7 +38,7 @@ use Rattle.replica.specs.declared.started.Seat.{Seat}
 use Rattle.replica.specs.declared.stages.Stepped.{Stepped}
 use Rattle.replica.specs.Started.{room_for}
 use Rattle.replica.specs.Step as spec
-use Rattle.replica.specs.Step.{leftBy, laid, world}
+use Rattle.replica.specs.Step.{left_by, laid, world}
 use Rattle.replica.proofs.OrderLaws.{whole-order}
 use Rattle.replica.proofs.Row.{seat, seat-mach, seat-vals, seat-tells, seat-makes, seat-typed, core, core-mach, core-vals, core-tells, core-makes, core-typed, order-typed, stepped, stepped-makes, stepped-typed}
 use Rattle.replica.proofs.Uses as U
@@ -94,7 +94,7 @@ module _ {M : Type 1} {𝓤 : Ura M} (𝓛 : Logic 𝓤) (mem : Memory → SProp
   abbrev slices : List ℕ → List ℕ → List ℕ → List Slot → List ℕ → List (Lft × (Share × Fml))
   slices ks' vs' ts' ys' zs' = (κ₁, (q₁, OwnMut u32 (named 0) κ₁ b₁ o₁ (length ks) γ₁ ks')) ∷ (κ₂, (q₂, OwnMut u64 (named 1) κ₂ b₂ o₂ (length vs) γ₂ vs')) ∷ (κ₃, (q₃, OwnMut u64 (named 2) κ₃ b₃ o₃ (length ts) γ₃ ts')) ∷ (κ₄, (q₄, OwnMut slot (named 3) κ₄ b₄ o₄ (length ys) γ₄ ys')) ∷ (κ₅, (q₅, OwnMut u8 (named 4) κ₅ b₅ o₅ (length zs) γ₅ zs')) ∷ (κ₆, (q₆, OwnShr u8 (named 5) κ₆ b₆ o₆ (length xs) γ₆ xs)) ∷ []
 
-  exits : (r : Stepped) (z : Val) → Is stepped r (z ∷ []) → (ks' vs' ts' : List ℕ) (ys' : List Slot) (zs' : List ℕ) → (leftBy r ks' vs' ts' ys' zs' ≡ laid (spec.stepped (world s ks c vs ts ys) (length zs) xs) zs) × (r.written ≤ room_for (length ys))
+  exits : (r : Stepped) (z : Val) → Is stepped r (z ∷ []) → (ks' vs' ts' : List ℕ) (ys' : List Slot) (zs' : List ℕ) → (left_by r ks' vs' ts' ys' zs' ≡ laid (spec.stepped (world s ks c vs ts ys) (length zs) xs) zs) × (r.written ≤ room_for (length ys))
       → length ks' ≡ length ks → length vs' ≡ length vs → length ts' ≡ length ts → length ys' ≡ length ys → length zs' ≡ length zs → ent 𝓤 (⋆ 𝓛 (entries 𝓛 (slices ks' vs' ts' ys' zs'))) (Post z)
   exits r z is ks' vs' ts' ys' zs' e l₁ l₂ l₃ l₄ l₅ =
       via 𝓤 _ (at-end-all 𝓛 (seat ∷ core ∷ []) (seat-makes 𝓛, (core-makes 𝓛, tt)) (s, (c, tt)) (seat-mach s ∷ [], (core-mach c ∷ [], tt)) (s-is, (c-is, tt)) stepped (stepped-makes 𝓛) r z is e (slices ks' vs' ts' ys' zs'))

@@ -39,8 +39,8 @@ use Rattle.replica.specs.declared.stages.Stepped.{Stepped}
 use Rattle.replica.specs.declared.step.Order.{Order}
 use Rattle.replica.specs.Started.{room_for}
 use Rattle.replica.specs.Step as spec
-use Rattle.replica.specs.Step.{leftBy, laid, world}
-use Rattle.replica.specs.Order.{recordIn}
+use Rattle.replica.specs.Step.{left_by, laid, world}
+use Rattle.replica.specs.Order.{record_in}
 use Rattle.replica.proofs.StepLaws.{settle-room, finish-needs, step_room, step_left}
 use Rattle.replica.proofs.Row.{order, order-mach, order-vals, order-tells, order-makes, order-typed, begun-typed, stepped, stepped-makes, stepped-typed}
 use Rattle.replica.proofs.Uses as U
@@ -82,7 +82,7 @@ module _ {M : Type 1} {𝓤 : Ura M} (𝓛 : Logic 𝓤) (mem : Memory → SProp
   open 𝓛 use {H}
 
   abbrev r : List ℕ
-  r = recordIn d xs
+  r = record_in d xs
 
   abbrev v₁ : Val
   v₁ = slice_val (b₁, o₁) (length ks)
@@ -112,7 +112,7 @@ module _ {M : Type 1} {𝓤 : Ura M} (𝓛 : Logic 𝓤) (mem : Memory → SProp
   abbrev slices : List ℕ → List ℕ → List ℕ → List Slot → List ℕ → List (Lft × (Share × Fml))
   slices ks' vs' ts' ys' zs' = (κ₁, (q₁, OwnMut u32 (named 0) κ₁ b₁ o₁ (length ks) γ₁ ks')) ∷ (κ₂, (q₂, OwnMut u64 (named 1) κ₂ b₂ o₂ (length vs) γ₂ vs')) ∷ (κ₃, (q₃, OwnMut u64 (named 2) κ₃ b₃ o₃ (length ts) γ₃ ts')) ∷ (κ₄, (q₄, OwnMut slot (named 3) κ₄ b₄ o₄ (length ys) γ₄ ys')) ∷ (κ₅, (q₅, OwnMut u8 (named 4) κ₅ b₅ o₅ (length zs) γ₅ zs')) ∷ (κ₆, (q₆, OwnShr u8 (named 5) κ₆ b₆ o₆ (length xs) γ₆ xs)) ∷ []
 
-  exits : (x : Stepped) (z : Val) → Is stepped x (z ∷ []) → (ks' vs' ts' : List ℕ) (ys' : List Slot) (zs' : List ℕ) → (leftBy x ks' vs' ts' ys' zs' ≡ laid (spec.stepped (world d.seat ks d.core vs ts ys) (length zs) r) zs) × (x.written ≤ room_for (length ys))
+  exits : (x : Stepped) (z : Val) → Is stepped x (z ∷ []) → (ks' vs' ts' : List ℕ) (ys' : List Slot) (zs' : List ℕ) → (left_by x ks' vs' ts' ys' zs' ≡ laid (spec.stepped (world d.seat ks d.core vs ts ys) (length zs) r) zs) × (x.written ≤ room_for (length ys))
       → length ks' ≡ length ks → length vs' ≡ length vs → length ts' ≡ length ts → length ys' ≡ length ys → length zs' ≡ length zs → ent 𝓤 (⋆ 𝓛 (entries 𝓛 (slices ks' vs' ts' ys' zs'))) (Post z)
   exits x z is ks' vs' ts' ys' zs' e l₁ l₂ l₃ l₄ l₅ =
       via 𝓤 _ (at-end-all 𝓛 (order ∷ []) (order-makes 𝓛, tt) (d, tt) (order-mach d ∷ [], tt) (d-is, tt) stepped (stepped-makes 𝓛) x z is e (slices ks' vs' ts' ys' zs'))

@@ -30,7 +30,7 @@ use denote.Triple.Walked.{Stays, stay_none, stay_none_slice, walk_of, Goes-none,
 use denote.Exit.{yes}
 use Rattle.synchronizer.specs.declared.table.Slot.{Slot}
 use Rattle.synchronizer.specs.declared.ancestors.Ancestors.{Ancestors}
-use Rattle.synchronizer.specs.Table.{ancestorsOf}
+use Rattle.synchronizer.specs.Table.{ancestors_of}
 use Rattle.synchronizer.proofs.TableLaws.{ancestors-found}
 use Rattle.synchronizer.proofs.Lent.{arg, gets-in, held_at, frees-at, at-end, at_name, OwnShr, shr-as-shr, calls-plain, calls-held}
 use Rattle.synchronizer.proofs.Row.{slot, slot-mach, slot-vals, slot-tells, slot-makes, slot-typed, parent-typed, ancestors, ancestors-makes, ancestors-typed}
@@ -70,7 +70,7 @@ module _ {M : Type 1} {𝓤 : Ura M} (𝓛 : Logic 𝓤) (mem : Memory → SProp
   abbrev Post : Val → SProp 𝓤
   Post = (walk_of 𝓛 get-ancestors.ended stayed (get-ancestors.clauses 𝓛 mem run)).post y
 
-  exits : (r : Ancestors) (z : Val) → Is ancestors r (z ∷ []) → r ≡ ancestorsOf ys s
+  exits : (r : Ancestors) (z : Val) → Is ancestors r (z ∷ []) → r ≡ ancestors_of ys s
       → ent 𝓤 (sep 𝓤 (sem 𝓛 (OwnShr slot (named 0) κ b o (length ys) γ ys)) (A.lft κ q)) (Post z)
   exits r z is e =
       via 𝓤 _ (at-end 𝓛 (slot ∷ []) (slot-makes 𝓛, tt) (s, tt) (slot-mach s ∷ [], tt) (s-is, tt) ancestors (ancestors-makes 𝓛) r z is e κ q (OwnShr slot (named 0) κ b o (length ys) γ ys))

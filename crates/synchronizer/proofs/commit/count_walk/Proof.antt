@@ -1,4 +1,4 @@
--- `synchronizer::commit::count_walk` meets its contract: a walk of its MIR. The loop's invariant: the trail comes to what is to be counted (`meantBy`), and where it goes on no slot below its block is counted yet (`Sound`).
+-- `synchronizer::commit::count_walk` meets its contract: a walk of its MIR. The loop's invariant: the trail comes to what is to be counted (`meant_by`), and where it goes on no slot below its block is counted yet (`Sound`).
 -- The round of its block falls. Assumes nothing.
 use mathlib.Core.Path.{◌≡◌, refl, sym, ◌∙◌, ap, subst}
 use Prim.Native.Nat.{ℕ, ◌+◌, ◌<◌, ◌^◌}
@@ -42,9 +42,9 @@ use Rattle.synchronizer.specs.declared.table.Slot.{Slot}
 use Rattle.synchronizer.specs.declared.commit.Trail.{Trail}
 use Rattle.synchronizer.specs.declared.commit.Walked.{Walked}
 use Rattle.synchronizer.specs.Table.{parent_of}
-use Rattle.synchronizer.specs.Walk.{commitOf}
+use Rattle.synchronizer.specs.Walk.{commit_of}
 use Rattle.synchronizer.specs.Parts.{count_of}
-use Rattle.synchronizer.proofs.WalkLaws.{meantBy, meant-over, Sound, heightOf, count-start, count-step, sound-start, sound-step, height-step}
+use Rattle.synchronizer.proofs.WalkLaws.{meant_by, meant-over, Sound, height_of, count-start, count-step, sound-start, sound-step, height-step}
 use Rattle.synchronizer.proofs.Lent.{arg, gets-in, full, void, held_at, frees-at, frees-room, by_cases, at-end, at_name, OwnShr, HeldShr, shr-as-shr, calls-plain, calls-held}
 use Rattle.synchronizer.proofs.Row.{slot, slot-mir, slot-mach, slot-vals, slot-tells, slot-makes, slot-typed, parent-mir, parent-typed, trail, trail-mir, trail-mach, trail-tells, trail-typed, count, count-mir, count-makes, count-typed, round, round-mir, round-mach, round-vals, round-tells, round-makes, round-typed}
 use Rattle.synchronizer.proofs.Uses as U
@@ -100,7 +100,7 @@ module _ {M : Type 1} {𝓤 : Ura M} (𝓛 : Logic 𝓤) (mem : Memory → SProp
   abbrev Post : Val → SProp 𝓤
   Post = (walk_of 𝓛 count-walk.ended stayed (count-walk.clauses 𝓛 mem run)).post y
 
-  exits : (r : Walked) (z : Val) → Is count r (z ∷ []) → r ≡ count_of (commitOf ys s l.0)
+  exits : (r : Walked) (z : Val) → Is count r (z ∷ []) → r ≡ count_of (commit_of ys s l.0)
       → ent 𝓤 (sep 𝓤 (sem 𝓛 (OwnShr slot (named 0) κ b o (length ys) γ ys)) (A.lft κ q)) (Post z)
   exits r z is e =
       via 𝓤 _ (at-end 𝓛 (slot ∷ round ∷ []) (slot-makes 𝓛, (round-makes 𝓛, tt)) (s, (l, tt)) (slot-mach s ∷ [], (round-mach l ∷ [], tt)) (s-is, (l-is, tt)) count (count-makes 𝓛) r z is e κ q (OwnShr slot (named 0) κ b o (length ys) γ ys))
@@ -108,13 +108,13 @@ module _ {M : Type 1} {𝓤 : Ura M} (𝓛 : Logic 𝓤) (mem : Memory → SProp
 
   -- how far the walk has come: the trail comes to what is to be counted, and where it goes on it is sound
   abbrev Along : Type 0
-  Along = (u : Trail) × Is trail u (trail-mach u ∷ []) × (meantBy ys u ≡ count_of (commitOf ys s l.0)) × (u.going ≡ true → Sound ys u)
+  Along = (u : Trail) × Is trail u (trail-mach u ∷ []) × (meant_by ys u ≡ count_of (commit_of ys s l.0)) × (u.going ≡ true → Sound ys u)
 
   abbrev Nearer : Along → Along → Type 0
-  Nearer x z = heightOf x.0 < heightOf z.0
+  Nearer x z = height_of x.0 < height_of z.0
 
   Nearer-wf : WellFounded Nearer
-  Nearer-wf = InvImage.wf (λ (x : Along). heightOf x.0) lt-wf_rel.wf
+  Nearer-wf = InvImage.wf (λ (x : Along). height_of x.0) lt-wf_rel.wf
 
   module _ (𝓣 : Tables 𝓤 H) (known : Known 𝓛 mem run 𝓣) (l₀ l₁ l₂ l₃ l₄ l₅ l₆ l₇ l₈ : ℕ) where
     abbrev En : Env 𝓤 H

@@ -39,12 +39,12 @@ use denote.Triple.Table.{entered, cited}
 use denote.Triple.Walked.{needs, Stays, stay_none, stay_none_slice, stay_slice, walk_of, Goes-none, Goes-none_slice, Goes-slice, ends_at, walked, walk_Meets}
 use denote.Exit.{yes}
 use borrow.Author.Tests.{ltb-true, ltb-false}
-use Rattle.outputs.specs.Records.{commitSize}
+use Rattle.outputs.specs.Records.{commit_size}
 use Rattle.outputs.specs.Put.{Wrote}
 use Rattle.synchronizer.specs.declared.table.Slot.{Slot}
 use Rattle.synchronizer.specs.declared.commit.Chain.{Chain}
-use Rattle.synchronizer.specs.Walk.{chainOf}
-use Rattle.synchronizer.specs.Settle.{commitRec}
+use Rattle.synchronizer.specs.Walk.{chain_of}
+use Rattle.synchronizer.specs.Settle.{commit_rec}
 use Rattle.synchronizer.proofs.ChainLaws.{Pending, pending-all, pending-less, pending-none}
 use Rattle.synchronizer.proofs.Lent.{arg, sets, gets-in, full, void, held-two-at, frees-at, frees-room, by_cases, at-end-two, at_name, OwnShr, OwnMut, HeldShr, HeldMut, AsShr, AsMut, shr-as-shr, mut-as-mut, calls-plain, calls-held}
 use Rattle.synchronizer.proofs.Row.{slot, slot-mir, slot-typed, parent-mir, parent-typed, chain, chain-mir, chain-mach, chain-vals, chain-tells, chain-makes, chain-typed}
@@ -91,7 +91,7 @@ record Known {M : Type 1} {𝓤 : Ura M} (𝓛 : Logic 𝓤) (mem : Memory → S
   get-parent-block : Triple 𝓤 (𝓣.C #synchronizer·ancestors·get-parent-block) (U.GetParentBlockMet 𝓛 mem run)
   follow : Triple 𝓤 (𝓣.C #synchronizer·commit·follow) (U.FollowMet 𝓛 mem run)
 
-module _ {M : Type 1} {𝓤 : Ura M} (𝓛 : Logic 𝓤) (mem : Memory → SProp 𝓤) (run : Routine → Fun 𝓤) (κ κ' : Lft) (q q' : Share) (b o : ℕ) (γ : GName) (ys : List Slot) (room : Room slot (length ys)) (b' o' : ℕ) (γ' : GName) (xs : List ℕ) (room' : Room u8 (length xs)) (c : Chain) (c-is : Is chain c (chain-mach c ∷ [])) (pre : c.at + commitSize * c.left ≤ length xs) where
+module _ {M : Type 1} {𝓤 : Ura M} (𝓛 : Logic 𝓤) (mem : Memory → SProp 𝓤) (run : Routine → Fun 𝓤) (κ κ' : Lft) (q q' : Share) (b o : ℕ) (γ : GName) (ys : List Slot) (room : Room slot (length ys)) (b' o' : ℕ) (γ' : GName) (xs : List ℕ) (room' : Room u8 (length xs)) (c : Chain) (c-is : Is chain c (chain-mach c ∷ [])) (pre : c.at + commit_size * c.left ≤ length xs) where
   open 𝓛 use {H, A}
 
   abbrev v : Val
@@ -106,7 +106,7 @@ module _ {M : Type 1} {𝓤 : Ura M} (𝓛 : Logic 𝓤) (mem : Memory → SProp
   abbrev Post : Val → SProp 𝓤
   Post = (walk_of 𝓛 write-commits.ended stayed (write-commits.clauses 𝓛 mem run)).post y
 
-  exits : (r : Unit {0}) (z : Val) → Is unit r (z ∷ []) → (xs' : List ℕ) → Wrote (commitSize * c.left) (map commitRec (chainOf c.left ys c.block)) xs c.at xs' (c.at + commitSize * c.left) → length xs' ≡ length xs
+  exits : (r : Unit {0}) (z : Val) → Is unit r (z ∷ []) → (xs' : List ℕ) → Wrote (commit_size * c.left) (map commit_rec (chain_of c.left ys c.block)) xs c.at xs' (c.at + commit_size * c.left) → length xs' ≡ length xs
       → ent 𝓤 (sep 𝓤 (sep 𝓤 (sem 𝓛 (OwnShr slot (named 0) κ b o (length ys) γ ys)) (A.lft κ q)) (sep 𝓤 (sem 𝓛 (OwnMut u8 (named 1) κ' b' o' (length xs) γ' xs')) (A.lft κ' q'))) (Post z)
   exits r z is xs' e same' =
       via 𝓤 _ (at-end-two 𝓛 (chain ∷ []) (chain-makes 𝓛, tt) (c, tt) (chain-mach c ∷ [], tt) (c-is, tt) unit (Nothing-Makes 𝓛) r z is e κ κ' q q' (OwnShr slot (named 0) κ b o (length ys) γ ys) (OwnMut u8 (named 1) κ' b' o' (length xs) γ' xs'))
@@ -156,7 +156,7 @@ module _ {M : Type 1} {𝓤 : Ura M} (𝓛 : Logic 𝓤) (mem : Memory → SProp
         calls-plain ! fm (U.remains-use 𝓛 mem run 𝓣 known.remains x.0 (chain-mach x.0) x.2) (and_then ! (arg ! 14 refl) (no_more !)) (λ z₁ r f₁. gets-in ! 8 refl ((bool_Lawful 𝓛).typed r _ f₁.1).0 $
         by_cases r
         (λ e. let more : 0 < x.0.left = ltb-true 0 x.0.left (sym f₁.0 ∙ e) in
-        let fits : x.0.at + commitSize * x.0.left ≤ length x.1 = omega (arith, pre, x.3, x.4.small) in
+        let fits : x.0.at + commit_size * x.0.left ≤ length x.1 = omega (arith, pre, x.3, x.4.small) in
         rewrite ! 8 (λ (u : Val). ‵ (fat full_share ty_bool l₇ 0 u)) (ap only f₁.1 ∙ ap vbool e) refl $ stays ! (arg ! 8 refl) $
         sets ! 4 refl (addr ! (from ! (fld ! refl (hop ! (look_in ! 18 (sub ! 0 refl (whole !))) (stop !))))) (tt, tt) $
         sets ! 2 refl (agg ! (and_then ! (arg ! 4 refl) (and_then ! (load ! (from ! (fld ! refl (stop !))) (look_in ! 18 (sub ! 1 refl (whole !)))) (no_more !)))) (tt, (tt, (record { fits = room'.0 }, tt))) $

@@ -37,8 +37,8 @@ use Rattle.synchronizer.specs.declared.table.Slot.{Slot}
 use Rattle.synchronizer.specs.declared.ancestors.Ancestors.{Ancestors}
 use Rattle.synchronizer.specs.declared.settle.Work.{Work}
 use Rattle.synchronizer.specs.declared.settle.Settled.{Settled}
-use Rattle.synchronizer.specs.Settle.{settleMost, Settles}
-use Rattle.synchronizer.specs.Parts.{committedOf, CommitsFit}
+use Rattle.synchronizer.specs.Settle.{settle_most, Settles}
+use Rattle.synchronizer.specs.Parts.{committed_of, CommitsFit}
 use Rattle.synchronizer.proofs.SettleLaws.{commit-room, commit-done}
 use Rattle.synchronizer.proofs.Lent.{arg, sets, gets-in, held-two-at, frees-at, at-end-two, at_name, OwnShr, OwnMut, shr-as-shr, mut-as-mut, calls-plain, calls-held, calls-both}
 use Rattle.synchronizer.proofs.Row.{slot, slot-typed, ancestors, ancestors-mach, ancestors-vals, ancestors-tells, ancestors-makes, ancestors-typed, count-typed, chain-typed, work, work-mach, work-vals, work-tells, work-makes, work-typed, settled, settled-makes, settled-typed, round-typed}
@@ -93,7 +93,7 @@ module _ {M : Type 1} {𝓤 : Ura M} (𝓛 : Logic 𝓤) (mem : Memory → SProp
   abbrev Post : Val → SProp 𝓤
   Post = (walk_of 𝓛 commit.ended stayed (commit.clauses 𝓛 mem run)).post y
 
-  exits : (r : Settled) (z : Val) → Is settled r (z ∷ []) → (xs' : List ℕ) → Settles (committedOf ys w a) (settleMost (length ys)) xs w.at r ys xs' → length xs' ≡ length xs
+  exits : (r : Settled) (z : Val) → Is settled r (z ∷ []) → (xs' : List ℕ) → Settles (committed_of ys w a) (settle_most (length ys)) xs w.at r ys xs' → length xs' ≡ length xs
       → ent 𝓤 (sep 𝓤 (sep 𝓤 (sem 𝓛 (OwnShr slot (named 0) κ b o (length ys) γ ys)) (A.lft κ q)) (sep 𝓤 (sem 𝓛 (OwnMut u8 (named 1) κ' b' o' (length xs) γ' xs')) (A.lft κ' q'))) (Post z)
   exits r z is xs' e same' =
       via 𝓤 _ (at-end-two 𝓛 (work ∷ ancestors ∷ []) (work-makes 𝓛, (ancestors-makes 𝓛, tt)) (w, (a, tt)) (work-mach w ∷ [], (ancestors-mach a ∷ [], tt)) (w-is, (a-is, tt)) settled (settled-makes 𝓛) r z is e κ κ' q q' (OwnShr slot (named 0) κ b o (length ys) γ ys) (OwnMut u8 (named 1) κ' b' o' (length xs) γ' xs'))

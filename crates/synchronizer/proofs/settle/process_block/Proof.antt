@@ -33,7 +33,7 @@ use denote.Exit.{yes}
 use Rattle.synchronizer.specs.declared.table.Slot.{Slot}
 use Rattle.synchronizer.specs.declared.settle.Work.{Work}
 use Rattle.synchronizer.specs.declared.settle.Settled.{Settled}
-use Rattle.synchronizer.specs.Settle.{processedOf, settleMost, Settles}
+use Rattle.synchronizer.specs.Settle.{processed_of, settle_most, Settles}
 use Rattle.synchronizer.specs.Parts.{Admits}
 use Rattle.synchronizer.proofs.SettleLaws.{process-room, process-done}
 use Rattle.synchronizer.proofs.Lent.{arg, sets, gets-in, held-two-at, frees-at, at-end-two, at_name, OwnMut, mut-as-shr, mut-as-mut, calls-plain, calls-held, calls-both}
@@ -62,7 +62,7 @@ record Known {M : Type 1} {𝓤 : Ura M} (𝓛 : Logic 𝓤) (mem : Memory → S
   admit : Triple 𝓤 (𝓣.C #synchronizer·settle·admit) (U.AdmitMet 𝓛 mem run)
   commit : Triple 𝓤 (𝓣.C #synchronizer·settle·commit) (U.CommitMet 𝓛 mem run)
 
-module _ {M : Type 1} {𝓤 : Ura M} (𝓛 : Logic 𝓤) (mem : Memory → SProp 𝓤) (run : Routine → Fun 𝓤) (κ κ' : Lft) (q q' : Share) (b o : ℕ) (γ : GName) (ys : List Slot) (room : Room slot (length ys)) (b' o' : ℕ) (γ' : GName) (xs : List ℕ) (room' : Room u8 (length xs)) (w : Work) (w-is : Is work w (work-mach w ∷ [])) (pre : w.at + settleMost (length ys) ≤ length xs) where
+module _ {M : Type 1} {𝓤 : Ura M} (𝓛 : Logic 𝓤) (mem : Memory → SProp 𝓤) (run : Routine → Fun 𝓤) (κ κ' : Lft) (q q' : Share) (b o : ℕ) (γ : GName) (ys : List Slot) (room : Room slot (length ys)) (b' o' : ℕ) (γ' : GName) (xs : List ℕ) (room' : Room u8 (length xs)) (w : Work) (w-is : Is work w (work-mach w ∷ [])) (pre : w.at + settle_most (length ys) ≤ length xs) where
   open 𝓛 use {H, A}
 
   abbrev v : Val
@@ -77,7 +77,7 @@ module _ {M : Type 1} {𝓤 : Ura M} (𝓛 : Logic 𝓤) (mem : Memory → SProp
   abbrev Post : Val → SProp 𝓤
   Post = (walk_of 𝓛 process-block.ended stayed (process-block.clauses 𝓛 mem run)).post y
 
-  exits : (r : Settled) (z : Val) → Is settled r (z ∷ []) → (ys' : List Slot) → (xs' : List ℕ) → Settles (processedOf ys w) (settleMost (length ys)) xs w.at r ys' xs' → length ys' ≡ length ys → length xs' ≡ length xs
+  exits : (r : Settled) (z : Val) → Is settled r (z ∷ []) → (ys' : List Slot) → (xs' : List ℕ) → Settles (processed_of ys w) (settle_most (length ys)) xs w.at r ys' xs' → length ys' ≡ length ys → length xs' ≡ length xs
       → ent 𝓤 (sep 𝓤 (sep 𝓤 (sem 𝓛 (OwnMut slot (named 0) κ b o (length ys) γ ys')) (A.lft κ q)) (sep 𝓤 (sem 𝓛 (OwnMut u8 (named 1) κ' b' o' (length xs) γ' xs')) (A.lft κ' q'))) (Post z)
   exits r z is ys' xs' e same same' =
       via 𝓤 _ (at-end-two 𝓛 (work ∷ []) (work-makes 𝓛, tt) (w, tt) (work-mach w ∷ [], tt) (w-is, tt) settled (settled-makes 𝓛) r z is e κ κ' q q' (OwnMut slot (named 0) κ b o (length ys) γ ys') (OwnMut u8 (named 1) κ' b' o' (length xs) γ' xs'))

@@ -37,7 +37,7 @@ use denote.Exit.{yes}
 use Rattle.synchronizer.specs.declared.table.Slot.{Slot}
 use Rattle.synchronizer.specs.declared.settle.Work.{Work}
 use Rattle.synchronizer.specs.declared.settle.Settled.{Settled}
-use Rattle.synchronizer.specs.Settle.{settled_of, settleMost, RoomFor, Settles}
+use Rattle.synchronizer.specs.Settle.{settled_of, settle_most, RoomFor, Settles}
 use Rattle.synchronizer.proofs.SettleLaws.{ask-room, ask-done, settle-room, settle-block, settle-clear, settle-idle}
 use Rattle.synchronizer.proofs.Lent.{arg, sets, gets-in, held-two-at, frees-at, frees-room, passes, enters-arm, by_cases, at-end-two, at_name, OwnMut, mut-as-mut, calls-plain, calls-held, calls-both}
 use Rattle.synchronizer.proofs.Row.{slot, work, work-mach, work-vals, work-tells, work-makes, work-typed, settled, settled-makes, settled-typed}
@@ -92,7 +92,7 @@ module _ {M : Type 1} {𝓤 : Ura M} (𝓛 : Logic 𝓤) (mem : Memory → SProp
   abbrev Post : Val → SProp 𝓤
   Post = (walk_of 𝓛 settle.ended stayed (settle.clauses 𝓛 mem run)).post y
 
-  exits : (r : Settled) (z : Val) → Is settled r (z ∷ []) → (ys' : List Slot) → (xs' : List ℕ) → Settles (settled_of ys w) (settleMost (length ys)) xs w.at r ys' xs' → length ys' ≡ length ys → length xs' ≡ length xs
+  exits : (r : Settled) (z : Val) → Is settled r (z ∷ []) → (ys' : List Slot) → (xs' : List ℕ) → Settles (settled_of ys w) (settle_most (length ys)) xs w.at r ys' xs' → length ys' ≡ length ys → length xs' ≡ length xs
       → ent 𝓤 (sep 𝓤 (sep 𝓤 (sem 𝓛 (OwnMut slot (named 0) κ b o (length ys) γ ys')) (A.lft κ q)) (sep 𝓤 (sem 𝓛 (OwnMut u8 (named 1) κ' b' o' (length xs) γ' xs')) (A.lft κ' q'))) (Post z)
   exits r z is ys' xs' e same same' =
       via 𝓤 _ (at-end-two 𝓛 (work ∷ []) (work-makes 𝓛, tt) (w, tt) (work-mach w ∷ [], tt) (w-is, tt) settled (settled-makes 𝓛) r z is e κ κ' q q' (OwnMut slot (named 0) κ b o (length ys) γ ys') (OwnMut u8 (named 1) κ' b' o' (length xs) γ' xs'))

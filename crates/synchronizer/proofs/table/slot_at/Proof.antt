@@ -35,7 +35,7 @@ use denote.Triple.Table.{entered, cited}
 use denote.Triple.Walked.{Stays, stay_none, stay_none_slice, walk_of, Goes-none, Goes-none_slice, ends_at, walked, walk_Meets}
 use denote.Exit.{yes}
 use Rattle.synchronizer.specs.declared.table.Slot.{Slot}
-use Rattle.synchronizer.specs.Table.{blank, slotAt}
+use Rattle.synchronizer.specs.Table.{blank, slot_at}
 use Rattle.synchronizer.proofs.TableLaws.{slot-past}
 use Rattle.synchronizer.proofs.Lent.{held_at, frees-at, frees-room, at-end, at_name, OwnShr, calls-plain}
 use Rattle.synchronizer.proofs.Row.{slot, slot-mach, slot-vals, slot-tells, slot-copy, slot-makes, slot-typed, offset-fits}
@@ -67,7 +67,7 @@ module _ {M : Type 1} {𝓤 : Ura M} (𝓛 : Logic 𝓤) (mem : Memory → SProp
   abbrev Own : Fml
   Own = OwnShr slot (named 0) κ b o (length ys) γ ys
 
-  exits : (r : Slot) (w : Val) → Is slot r (w ∷ []) → r ≡ slotAt ys i → ent 𝓤 (sep 𝓤 (sem 𝓛 Own) (A.lft κ q)) (Post w)
+  exits : (r : Slot) (w : Val) → Is slot r (w ∷ []) → r ≡ slot_at ys i → ent 𝓤 (sep 𝓤 (sem 𝓛 Own) (A.lft κ q)) (Post w)
   exits r w is e =
       via 𝓤 _ (at-end 𝓛 (usize ∷ []) (uint_Makes 𝓛 w64, tt) (i, tt) (vint w64 i ∷ [], tt) ((refl, i-fits), tt) slot (slot-makes 𝓛) r w is e κ q Own)
       (ends_at 𝓛 slot_at.ended stayed (slot_at.clauses 𝓛 mem run) y w r (tt, (tt, tt)) (tt, (tt, tt)))
@@ -89,11 +89,11 @@ module _ {M : Type 1} {𝓤 : Ura M} (𝓛 : Logic 𝓤) (mem : Memory → SProp
       move ! (16 ∷ []) $ split ! $ use1 𝓛 (‵ Own ⊛ ‵ Own) ((shr_slice_copy 𝓛 (named 0) κ slot).twice (at_name slot b o γ ys) (v ∷ [])) $ split ! $ fsplit ! $ drop ! $ fsplit ! $ drop ! $ move ! (0 ∷ 2 ∷ []) $
       looks_slice ! tt slot (Is slot) (shows 𝓛 slot) slot-vals slot-tells (slot-copy 𝓛) ys b o (λ q'. elem_out ! slot (Is slot) (shows 𝓛 slot) slot-vals slot-tells q' ys i blank b o within (λ g.
       -- [table[i]; what it owns; the others; what shuts; the fractured borrow; what the table owns; _7; …; _0; …]
-      assigns ! (of_opd ! (load ! (from ! (hop ! (look ! 8 refl) (stop !))) (look_raw ! 0 refl))) (from ! (stop !)) (init ! 6 refl (slot-typed 𝓛 (slotAt ys i) _ g)) $
-      assigns ! (of_opd ! (load ! (from ! (stop !)) (look ! 6 refl))) (from ! (stop !)) (init ! 20 refl (slot-typed 𝓛 (slotAt ys i) _ g)) $
-      elem_back ! slot q' ys i blank (slot-mach (slotAt ys i) ∷ []) b o within $ shuts_slice ! tt slot q' ys b o $
+      assigns ! (of_opd ! (load ! (from ! (hop ! (look ! 8 refl) (stop !))) (look_raw ! 0 refl))) (from ! (stop !)) (init ! 6 refl (slot-typed 𝓛 (slot_at ys i) _ g)) $
+      assigns ! (of_opd ! (load ! (from ! (stop !)) (look ! 6 refl))) (from ! (stop !)) (init ! 20 refl (slot-typed 𝓛 (slot_at ys i) _ g)) $
+      elem_back ! slot q' ys i blank (slot-mach (slot_at ys i) ∷ []) b o within $ shuts_slice ! tt slot q' ys b o $
       returns_within ! Post refl (look ! 17 refl) $ frees-at ! 17 refl refl $ frees-at ! 15 refl refl $ frees-at ! 13 refl refl $ frees-at ! 11 refl refl $ frees-at ! 9 refl refl $ frees-at ! 7 refl refl $ frees-at ! 5 refl refl $ frees-at ! 3 refl refl $ free0 ! $
-      keep ! (2 ∷ 0 ∷ []) $ by ! (exits (slotAt ys i) (slot-mach (slotAt ys i)) g refl))))
+      keep ! (2 ∷ 0 ∷ []) $ by ! (exits (slot_at ys i) (slot-mach (slot_at ys i)) g refl))))
       (λ over. skips ! $ exec ! 𝓣.C 𝓣.Λ _ body.t-4 (at_ret _ Post) $
       calls-plain ! (fm_of 𝓤 H 𝓛.laws 𝓣) (empty-use 𝓛 mem run 𝓣 known) (no_more !) (λ w r f.
       land ! (from ! (stop !)) (init ! 14 refl (slot-typed 𝓛 r w f.1)) $

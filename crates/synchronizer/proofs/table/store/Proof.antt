@@ -32,7 +32,7 @@ use denote.Triple.Table.{entered, cited}
 use denote.Triple.Walked.{Stays, stay_none, stay_slice, walk_of, Goes-none, Goes-slice, ends_at, walked, walk_Meets}
 use denote.Exit.{yes}
 use Rattle.synchronizer.specs.declared.table.Slot.{Slot}
-use Rattle.synchronizer.specs.Table.{place_of, stored, storeAnswer}
+use Rattle.synchronizer.specs.Table.{place_of, stored, store_answer}
 use Rattle.synchronizer.proofs.TableLaws.{place_found, stored-found}
 use Rattle.synchronizer.proofs.Lent.{arg, sets, gets-in, held_at, frees-at, at-end, at_name, OwnMut, mut-as-shr, mut-as-mut, calls-plain, calls-held}
 use Rattle.synchronizer.proofs.Row.{slot, slot-mach, slot-vals, slot-tells, slot-makes, slot-typed, want-typed}
@@ -88,7 +88,7 @@ module _ {M : Type 1} {𝓤 : Ura M} (𝓛 : Logic 𝓤) (mem : Memory → SProp
   abbrev Post : Val → SProp 𝓤
   Post = (walk_of 𝓛 store.ended stayed (store.clauses 𝓛 mem run)).post y
 
-  exits : (r : ℕ) (z : Val) → Is u16 r (z ∷ []) → (ys' : List Slot) → ((r ≡ storeAnswer (place_of ys s) (length ys)) × (ys' ≡ stored ys s)) → length ys' ≡ length ys
+  exits : (r : ℕ) (z : Val) → Is u16 r (z ∷ []) → (ys' : List Slot) → ((r ≡ store_answer (place_of ys s) (length ys)) × (ys' ≡ stored ys s)) → length ys' ≡ length ys
       → ent 𝓤 (sep 𝓤 (sem 𝓛 (OwnMut slot (named 0) κ b o (length ys) γ ys')) (A.lft κ q)) (Post z)
   exits r z is ys' e same =
       via 𝓤 _ (at-end 𝓛 (slot ∷ []) (slot-makes 𝓛, tt) (s, tt) (slot-mach s ∷ [], tt) (s-is, tt) u16 (uint_Makes 𝓛 w16) r z is e κ q (OwnMut slot (named 0) κ b o (length ys) γ ys'))

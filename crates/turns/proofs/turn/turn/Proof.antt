@@ -31,7 +31,7 @@ use denote.Triple.Table.{entered, cited}
 use denote.Triple.Walked.{Stays, stay_none, stay_none_slice, stay_slice, walk_of, Goes-none, Goes-none_slice, Goes-slice, ends_at, walked, walk_Meets}
 use denote.Exit.{yes}
 use Rattle.trace.specs.Part.{between}
-use Rattle.outputs.specs.Records.{answerSize}
+use Rattle.outputs.specs.Records.{answer_size}
 use Rattle.synchronizer.specs.declared.table.Slot.{Slot}
 use Rattle.replica.specs.Started.{room_for}
 use Rattle.replica.specs.Step.{world}
@@ -40,7 +40,7 @@ use Rattle.replica.proofs.Uses as S
 use Rattle.turns.specs.declared.turn.Run.{Run}
 use Rattle.turns.specs.declared.turn.Turned.{Turned}
 use Rattle.turns.specs.Turn as spec
-use Rattle.turns.specs.Turn.{leftBy, laidIn}
+use Rattle.turns.specs.Turn.{left_by, laid_in}
 use Rattle.turns.proofs.TurnLaws.{turn-left, turn-fits, turn-room}
 use Rattle.turns.proofs.Row.{run_row, run-mach, run-vals, run-tells, run-makes, run_typed, ahead-typed, turned-row, turned-makes, turned-typed}
 use Rattle.turns.proofs.Uses as U
@@ -106,7 +106,7 @@ module _ {M : Type 1} {𝓤 : Ura M} (𝓛 : Logic 𝓤) (mem : Memory → SProp
   abbrev slices : List ℕ → List ℕ → List ℕ → List Slot → List ℕ → List (Lft × (Share × Fml))
   slices ks' vs' ts' ys' zs' = (κ₁, (q₁, OwnMut u32 (named 0) κ₁ b₁ o₁ (length ks) γ₁ ks')) ∷ (κ₂, (q₂, OwnMut u64 (named 1) κ₂ b₂ o₂ (length vs) γ₂ vs')) ∷ (κ₃, (q₃, OwnMut u64 (named 2) κ₃ b₃ o₃ (length ts) γ₃ ts')) ∷ (κ₄, (q₄, OwnMut slot (named 3) κ₄ b₄ o₄ (length ys) γ₄ ys')) ∷ (κ₅, (q₅, OwnMut u8 (named 4) κ₅ b₅ o₅ (length zs) γ₅ zs')) ∷ (κ₆, (q₆, OwnShr u8 (named 5) κ₆ b₆ o₆ (length xs) γ₆ xs)) ∷ []
 
-  exits : (x : Turned) (z : Val) → Is turned-row x (z ∷ []) → (ks' vs' ts' : List ℕ) (ys' : List Slot) (zs' : List ℕ) → (leftBy x ks' vs' ts' ys' zs' ≡ laidIn (spec.turned (world g.seat ks g.core vs ts ys) (length zs) (between g.at g.have xs)) g.at g.have zs) × (x.written ≤ length zs) × (x.written ≤ room_for (length ys) + answerSize)
+  exits : (x : Turned) (z : Val) → Is turned-row x (z ∷ []) → (ks' vs' ts' : List ℕ) (ys' : List Slot) (zs' : List ℕ) → (left_by x ks' vs' ts' ys' zs' ≡ laid_in (spec.turned (world g.seat ks g.core vs ts ys) (length zs) (between g.at g.have xs)) g.at g.have zs) × (x.written ≤ length zs) × (x.written ≤ room_for (length ys) + answer_size)
       → length ks' ≡ length ks → length vs' ≡ length vs → length ts' ≡ length ts → length ys' ≡ length ys → length zs' ≡ length zs → ent 𝓤 (⋆ 𝓛 (entries 𝓛 (slices ks' vs' ts' ys' zs'))) (Post z)
   exits x z is ks' vs' ts' ys' zs' e l₁ l₂ l₃ l₄ l₅ =
       via 𝓤 _ (at-end-all 𝓛 (run_row ∷ []) (run-makes 𝓛, tt) (g, tt) (run-mach g ∷ [], tt) (g-is, tt) turned-row (turned-makes 𝓛) x z is e (slices ks' vs' ts' ys' zs'))

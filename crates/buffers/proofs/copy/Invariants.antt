@@ -1,0 +1,12 @@
+-- `buffers::copy` meets its contract: the invariant is that i bytes are pasted.
+-- Assumes nothing.
+use borrow.Author.Rules.{rules}
+use Prim.Native.Nat.{◌-◌}
+use Rattle.buffers.proofs.Moves.{Pasted, pasted-none, pasted-more, pasted-all}
+use Rattle.buffers.proofs.copy.Given as goal
+
+abbrev pub invariant-loop-i : goal.invariant-loop-i
+invariant-loop-i l = Pasted l.src l.initial.dst l.to l.n l.dst l.i
+
+abbrev pub decreases-loop-i : goal.decreases-loop-i
+decreases-loop-i l = l.n - l.i

@@ -1,0 +1,14 @@
+-- `buffers::shift` meets its contract: the invariant is `Moving`: what was passed is copied, and what is to come is as it was.
+-- Assumes nothing.
+use borrow.Author.Rules.{rules}
+use native.Mathlib.Omega.{arith}
+use mathlib.Core.Path.{refl}
+use Prim.Native.Nat.{◌-◌}
+use Rattle.buffers.proofs.Moves.{Moving, begin, moved, done}
+use Rattle.buffers.proofs.shift.Given as goal
+
+abbrev pub invariant-loop-i : goal.invariant-loop-i
+invariant-loop-i l = Moving l.initial.buf l.start l.n l.buf l.i
+
+abbrev pub decreases-loop-i : goal.decreases-loop-i
+decreases-loop-i l = l.n - l.i

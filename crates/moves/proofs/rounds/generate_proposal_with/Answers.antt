@@ -1,0 +1,11 @@
+-- `moves::rounds::generate_proposal_with` meets its contract: the test says whether MAKE is written.
+-- Assumes nothing.
+use borrow.Author.Rules.{rules}
+use Rattle.moves.proofs.MoveLaws.{make-with-leads, make-with-follows}
+use Rattle.moves.proofs.rounds.generate_proposal_with.Goals as goal
+
+pub returns-then-leader-own : goal.returns-then-leader-own
+returns-then-leader-own c = search (rules, make-with-leads)
+
+pub returns-else-leader-own : goal.returns-else-leader-own
+returns-else-leader-own c = search (rules, make-with-follows)

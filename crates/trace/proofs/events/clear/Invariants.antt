@@ -1,0 +1,17 @@
+-- `trace::events::clear` meets its contract. The loop: the first i numbers are 0, the others are as they were. The measure is what is left.
+-- Assumes nothing.
+use Prim.Native.Nat.{◌-◌, ◌≤◌}
+use mathlib.Core.Path.{◌≡◌, refl}
+use mathlib.Core.List.{◌++◌, append-nil}
+use native.Mathlib.Omega.{arith}
+use lib.ListN.{length, replicate, drop, length-set}
+use lib.Seq.{drop-length}
+use borrow.Author.Fill.{fill_more}
+use borrow.Author.Rules.{rules}
+use Rattle.trace.proofs.events.clear.Given as goal
+
+abbrev pub invariant-loop-i : goal.invariant-loop-i
+invariant-loop-i l = (l.i ≤ length l.initial.highs) × (length l.highs ≡ length l.initial.highs) × (l.highs ≡ replicate l.i 0 ++ drop l.i l.initial.highs)
+
+abbrev pub decreases-loop-i : goal.decreases-loop-i
+decreases-loop-i l = length l.initial.highs - l.i

@@ -1,0 +1,14 @@
+-- `trace::events::largest_high` meets its contract. The loop: `high` is the largest of the first i entries. The measure is what is left of the count.
+-- Assumes nothing.
+use Prim.Native.Nat.{◌-◌, ◌≤◌}
+use mathlib.Core.Path.{◌≡◌}
+use Rattle.trace.specs.Layout.{highs_in, largest}
+use Rattle.trace.proofs.Layouts.{high-none, high-more, high-last}
+use borrow.Author.Rules.{rules}
+use Rattle.trace.proofs.events.largest_high.Given as goal
+
+abbrev pub invariant-loop-i : goal.invariant-loop-i
+invariant-loop-i l = (l.i ≤ l.n) × (l.high ≡ largest (highs_in l.part l.i))
+
+abbrev pub decreases-loop-i : goal.decreases-loop-i
+decreases-loop-i l = l.n - l.i
