@@ -49,7 +49,7 @@ use Rattle.synchronizer.specs.declared.settle.Work.{Work}
 use Rattle.synchronizer.specs.Table.{place_of, ancestors_of}
 use Rattle.synchronizer.specs.Settle as settle
 use Rattle.synchronizer.specs.Settle.{is_two_chain, clean_of, commit_if, commit_rec, linked_of, wait_of, asking, processed_by, processed_of, settled_of, clean_most, settle_most}
-use Rattle.synchronizer.proofs.Lent.{by_cases}
+use Rattle.synchronizer.proofs.Tests.{by_cases}
 use Rattle.synchronizer.proofs.TableLaws.{cleared-length}
 use Rattle.synchronizer.proofs.SettleLaws.{commits-fit, processed-waits, wait-none, settled-length, settled-silent, settled-block}
 use Rattle.replica.specs.Started.{room_for, roomy}

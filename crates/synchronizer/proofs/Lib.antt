@@ -1,11 +1,8 @@
-pub mod Again
 pub mod Cases
 pub mod ChainLaws
 pub mod KeptLaws
-pub mod Lent
 pub mod Lookups
-pub mod Row
 pub mod SettleLaws
 pub mod TableLaws
-pub mod Uses
+pub mod Tests
 pub mod WalkLaws

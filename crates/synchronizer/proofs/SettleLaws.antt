@@ -37,7 +37,7 @@ use Rattle.synchronizer.specs.Walk.{no_commit, commit_of, chain_of}
 use Rattle.synchronizer.specs.Settle.{Settlement, answered, is_two_chain, clean_of, commit_if, commit_rec, linked_of, wait_of, asking, processed_by, processed_of, settled_of, clean_most, settle_most, RoomFor, Settles}
 use Rattle.synchronizer.specs.Settle as spec
 use Rattle.synchronizer.specs.Parts.{count_of, Admits, to_commit, committed_of, CommitsFit, Heads, settled_by, RoomToAsk, Asks}
-use Rattle.synchronizer.proofs.Lent.{by_cases}
+use Rattle.synchronizer.proofs.Tests.{by_cases}
 use Rattle.synchronizer.proofs.TableLaws.{stored-length, cleared-length}
 use Rattle.synchronizer.proofs.WalkLaws.{below, below-some, InTable, parent_in, commit-size, commit-chain, commit-genesis, commit-never-waits}
 

@@ -29,7 +29,7 @@ use Rattle.synchronizer.specs.declared.ancestors.Ancestors.{Ancestors}
 use Rattle.certificates.specs.Error.{wait_parent, ancestor_absent}
 use Rattle.synchronizer.specs.Table.{blank, slot_at, fits, lowest, want_any, want_free, want_digest, place_of, stored, store_answer, cleared, genesis, parent_of, ancestors_by, ancestors_of}
 use Rattle.synchronizer.specs.Parts.{want_parent, parent_by, placed}
-use Rattle.synchronizer.proofs.Lent.{by_cases}
+use Rattle.synchronizer.proofs.Tests.{by_cases}
 
 -- ---- the test of a slot
 

@@ -30,7 +30,7 @@ use Rattle.certificates.specs.Error.{wait_parent, ancestor_absent, round_not_bel
 use Rattle.synchronizer.specs.Table.{slot_at, lowest, want_digest, genesis, parent_of}
 use Rattle.synchronizer.specs.Walk.{Walk, refused, delivers, and_newer, on_parent, walk_from, walk_of, no_commit, committed_by, commit_of, chain_of}
 use Rattle.synchronizer.specs.Parts.{count_of, stopped, walking, set_out, walk_on}
-use Rattle.synchronizer.proofs.Lent.{by_cases}
+use Rattle.synchronizer.proofs.Tests.{by_cases}
 
 never : false ≡ true → ⊥
 never g = let z : ◌≡◌ {A = ℕ} 0 1 = cc in omega arith
