@@ -8,14 +8,11 @@ use Prim.Native.Nat.{ℕ, suc, ◌≤◌}
 use mathlib.Core.List.{List, [], ◌∷◌}
 use mathlib.Core.Path.{◌≡◌, refl, sym, ◌∙◌}
 use native.Mathlib.Nat.{le_refl}
-use denote.Enum.Declared.{tag_of}
-use types.Run.{OneOf, miss}
 use lib.ListN.{length}
 use Rattle.certificates.specs.declared.numbers.Hash.{Hash}
 use Rattle.certificates.specs.declared.numbers.Signers.{Signers}
 use Rattle.aggregator.specs.declared.tallies.Added.{Added}
 use Rattle.aggregator.specs.declared.tallies.Added.TheVariants.{NoRoom, Used, More, Full}
-use Rattle.aggregator.specs.contracts.tallies.Added.{the_type}
 use Rattle.aggregator.specs.Tally.{AddedAs}
 use Rattle.aggregator.specs.Tallies.{votes_length, timeouts_length, highs_at, vote_added, votes_after, timeout_added, timeouts_after}
 use Rattle.aggregator.proofs.Laws.{vote-no-room, vote-used, votes-after-length, votes-after-light, timeout-no-room, timeout-used, timeouts-after-length, timeouts-after-light}
@@ -41,9 +38,9 @@ timeout-tallied-is m own need s round p stake high = refl
 
 -- ---- short of the quorum
 
--- any variant but `Full`, as a test in code tells it: by the variant's number
+-- any variant but `Full`, as a test in code tells it
 abbrev pub Short : Added → Type 0
-Short a = OneOf (0 ∷ 1 ∷ 2 ∷ []) (tag_of the_type a)
+Short a = (i : ℕ) (signers : Signers) → a ≡ Full i signers → ⊥
 
 -- ---- a vote
 
@@ -56,7 +53,7 @@ module _ (m : List ℕ) (own need : ℕ) (core : Core) (votes timeouts out : Lis
   vote-stays NoRoom e h = rw (vote-no-room votes round hash p stake need k e)
   vote-stays Used e h = rw (vote-used votes round hash p stake need k e)
   vote-stays More e h = refl
-  vote-stays (Full i signers) e h = absurd (miss (0 ∷ 1 ∷ 2 ∷ []) 3 tt h)
+  vote-stays (Full i signers) e h = absurd (h _ _ refl)
 
   pub vote-tallied-short : {n : ℕ} → Short a → n ≡ added_number a
       → Reached certify_most (vote_tallied m own need (whole core votes timeouts) hash round p stake) out at (record { answer = n; core = core; at = at }) v timeouts out
@@ -78,7 +75,7 @@ module _ (m : List ℕ) (own need : ℕ) (core : Core) (votes timeouts out : Lis
   timeout-stays NoRoom e h = rw (timeout-no-room timeouts round p stake need high k e)
   timeout-stays Used e h = rw (timeout-used timeouts round p stake need high k e)
   timeout-stays More e h = refl
-  timeout-stays (Full i names) e h = absurd (miss (0 ∷ 1 ∷ 2 ∷ []) 3 tt h)
+  timeout-stays (Full i names) e h = absurd (h _ _ refl)
 
   pub timeout-tallied-short : {n : ℕ} → Short a → n ≡ added_number a
       → Reached time_out_most (timeout_tallied m own need (whole core votes timeouts) round p stake high) out at (record { answer = n; core = core; at = at }) votes t out

@@ -37,4 +37,4 @@ returns-in-Full c =
 pub returns : goal.returns
 returns c =
     timeout-taken _ c.args.own.0 c.args.core _ _ c.args.t _ c.requires.1 c.stake-held.ensures c.process_qc-a.ensures
-    (timeout-tallied-short _ _ _ _ _ _ _ _ _ _ _ _ c.add_timeout-x.ensures c.in_default.keys2 c.added_number.ensures)
+    (timeout-tallied-short _ _ _ _ _ _ _ _ _ _ _ _ c.add_timeout-x.ensures c.in_default.not-Full c.added_number.ensures)
