@@ -5,5 +5,3 @@ pub mod OrderLaws
 pub mod Theorems
 pub mod Sizes
 pub mod StageCode
-pub mod Row
-pub mod Uses

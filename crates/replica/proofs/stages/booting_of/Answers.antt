@@ -1,0 +1,17 @@
+-- `replica::stages::booting_of` meets its contract: a law for each way out.
+-- Assumes nothing.
+use Rattle.replica.proofs.StageCode.{booting-bad, booting-good, booting-sizeless, booting-roomless}
+use borrow.Author.Rules.{rules}
+use Rattle.replica.proofs.stages.booting_of.Goals as goal
+
+pub returns-in-Bad : goal.returns-in-Bad
+returns-in-Bad c = search (rules, booting-bad)
+
+pub returns-in-Total : goal.returns-in-Total
+returns-in-Total c = search (rules, booting-good)
+
+pub returns-then-is_roomy : goal.returns-then-is_roomy
+returns-then-is_roomy c = search (rules, booting-sizeless)
+
+pub returns : goal.returns
+returns c = search (rules, booting-roomless)

@@ -1,0 +1,27 @@
+-- `replica::stages::ready` meets its contract: a law for each way out.
+-- Assumes nothing.
+use Rattle.replica.proofs.StageCode.{ready-no-room, ready-limited, ready-handled, handle-needs}
+use Rattle.replica.proofs.StartedLaws.{started-ready, members-part}
+use borrow.Author.Rules.{rules}
+use Rattle.replica.proofs.stages.ready.Goals as goal
+
+pub returns-then-limit-ne0 : goal.returns-then-limit-ne0
+returns-then-limit-ne0 c =
+    search (rules, ready-limited)
+
+pub slice_bounds-handle-end : goal.slice_bounds-handle-end
+slice_bounds-handle-end c =
+    let y = (started-ready _ _ _ _ _ c.requires).count in
+    search (rules, y)
+
+pub handle-h-requires : goal.handle-h-requires
+handle-h-requires c =
+    handle-needs _ _ c.args.core _ _ _ c.args.out.now _ c.is_roomy.ensures _ c.limit_of-limit.ensures c.requires c.quorum_threshold-need.ensures c.if-is_roomy.true c.if-limit-ne0.false (members-part c.args.seat _)
+
+pub returns-then-is_roomy : goal.returns-then-is_roomy
+returns-then-is_roomy c =
+    ready-handled _ _ _ _ _ _ _ _ c.is_roomy.ensures _ c.limit_of-limit.ensures c.requires c.quorum_threshold-need.ensures c.if-is_roomy.true c.if-limit-ne0.false (members-part c.args.seat _) c.handle-h.ensures c.of_handed.ensures
+
+pub returns : goal.returns
+returns c =
+    search (rules, ready-no-room)
