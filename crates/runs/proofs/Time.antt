@@ -106,10 +106,10 @@ outs-at w (e ∷ es) (suc i) v = written_behind (step_on w e.event).outs (outs-a
 pub outs-find : {a : Rec} (w : World) (past rest : List Stage) → Written a (outs_of w past) → (i : ℕ) × (i < length past) × Written a (gives w (past ++ rest) i).outs
 unfolding at ev outs_of
 outs-find w [] rest v = absurd (written_none v)
-outs-find w (e ∷ past) rest v =
+outs-find {a = a} w (e ∷ past) rest v =
     ⊎_elim
     (λ u. (0, omega arith, u))
-    (λ u. let f = outs-find (next w e) past rest u in (suc f.0, omega arith, f.2))
+    (λ u. let f : (i : ℕ) × (i < length past) × Written a (gives (next w e) (past ++ rest) i).outs = outs-find {a = a} (next w e) past rest u in (suc f.0, omega arith, f.2))
     (written_either (step_on w e.event).outs (outs_of (next w e) past) v)
 
 -- ---- all that is delivered

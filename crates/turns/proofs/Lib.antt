@@ -2,15 +2,12 @@
 --     Fronts      what stands at the front
 --     Closings    the ANSWER behind the outputs
 --     TurnLaws    what the code of a turn did, put together
---     Row, Uses   what the walk of `turn` needs of structs and callees; `turn-use` is for the crates above
 --     LedgerLaws  the output records of a whole trace, by its front
 --     Pieces      a trace that is read in pieces
 --     Theorems    what a reader of the contract and of `ledger_of` may rely on
 pub mod Fronts
 pub mod Closings
 pub mod TurnLaws
-pub mod Row
-pub mod Uses
 pub mod LedgerLaws
 pub mod Pieces
 pub mod Theorems

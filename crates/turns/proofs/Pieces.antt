@@ -19,7 +19,7 @@ use Rattle.trace.specs.Record.{record_max, split_of, framed, record_of, rest_of}
 use Rattle.trace.specs.declared.record.Front.{Front}
 use Rattle.trace.specs.declared.record.Front.TheVariants.{End, Cut, Small, Record}
 use Rattle.trace.proofs.Parts.{by_order, num-past, num-append}
-use Rattle.trace.proofs.Fronts.{at-end, too_long}
+use Rattle.trace.proofs.Fronts.{at-end, too_long_lem}
 use Rattle.trace.proofs.FrontLaws.{Whole, front-append, record-append, rest-append}
 use Rattle.outputs.specs.Records.{Rec, answer, answer_size, enc_all}
 use Rattle.outputs.proofs.Wrote.{all_none}
@@ -75,7 +75,7 @@ too-long-append s t e =
     by_order {C = Cut ≡ split_of (s ++ t)} 2 (length s)
     (λ l.
     let n : length (s ++ t) ≡ length s + length t = length-append s t in
-    too_long (s ++ t) {n = num_at 2 s 0} (sym (num-append 2 s t 0 (omega arith))) (omega arith) h)
+    too_long_lem (s ++ t) {n = num_at 2 s 0} (sym (num-append 2 s t 0 (omega arith))) (omega arith) h)
     (λ l. let z : num_at 2 s 0 ≡ 0 = num-past 2 s 0 (omega arith) in absurd (omega arith))
 
 -- a front that is the end has no bytes
