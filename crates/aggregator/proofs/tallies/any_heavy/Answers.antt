@@ -24,11 +24,15 @@ loop-i-preserved c =
     let s = c.loop-i.invariant.3 in
     let h = c.loop-i-test.true in
     let is = c.is_heavy.ensures in
-    let e = c.if-is_heavy.false in
-    (omega arith, search rules, search rules, elim c.if-i-lt-TIMEOUT_TALLIES.branch [
-      | then-i-lt-TIMEOUT_TALLIES+else-is_heavy-2 w ↦ look-on s h is w.if-i-lt-TIMEOUT_TALLIES.true w.is_heavy-then-i-lt-TIMEOUT_TALLIES.ensures e w.if-is_heavy-2.false
-      | else-i-lt-TIMEOUT_TALLIES w ↦ look-past s h is e w.if-i-lt-TIMEOUT_TALLIES.false
-    ])
+    let e = c.if-is_heavy.false in (
+      omega arith,
+      search rules,
+      search rules,
+      elim c.if-i-lt-TIMEOUT_TALLIES.branch [
+        | then-i-lt-TIMEOUT_TALLIES+else-is_heavy-2 w ↦ look-on s h is w.if-i-lt-TIMEOUT_TALLIES.true w.is_heavy-then-i-lt-TIMEOUT_TALLIES.ensures e w.if-is_heavy-2.false
+        | else-i-lt-TIMEOUT_TALLIES w ↦ look-past s h is e w.if-i-lt-TIMEOUT_TALLIES.false
+      ],
+    )
 
 pub returns : goal.returns
 returns c = search (rules, look-end)

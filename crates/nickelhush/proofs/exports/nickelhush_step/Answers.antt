@@ -11,10 +11,13 @@ core_in-c-requires c = (ready-has _ _ _ (sym c.is_ready.ensures ∙ c.if-is_read
 
 pub keep-requires : goal.keep-requires
 keep-requires c =
-    let fit = ready-has _ _ _ (sym c.is_ready.ensures ∙ c.if-is_ready.true) in
-    (fit.seat-long, fit.core-long, step_small c.args.seat.now c.args.core.now c.args.stakes.now c.args.votes.now c.args.timeouts.now c.args.table.now c.args.out.now c.args.input.now
-      c.seat_in-s.ensures c.core_in-c.ensures c.step-r.result c.step-r.new.stakes c.step-r.new.votes c.step-r.new.timeouts c.step-r.new.table c.step-r.new.out
-      c.step-r.ensures.0 c.step-r.ensures.1)
+    let fit = ready-has _ _ _ (sym c.is_ready.ensures ∙ c.if-is_ready.true) in (
+      fit.seat-long,
+      fit.core-long,
+      step_small c.args.seat.now c.args.core.now c.args.stakes.now c.args.votes.now c.args.timeouts.now c.args.table.now c.args.out.now c.args.input.now
+          c.seat_in-s.ensures c.core_in-c.ensures c.step-r.result c.step-r.new.stakes c.step-r.new.votes c.step-r.new.timeouts c.step-r.new.table c.step-r.new.out
+          c.step-r.ensures.0 c.step-r.ensures.1,
+    )
 
 pub returns-then-is_ready : goal.returns-then-is_ready
 returns-then-is_ready c =

@@ -11,6 +11,7 @@ close-requires c =
     close-needs c.args.r c.args.table.now c.args.out.now c.args.input.now c.len_of-slots.result c.len_of-slots.ensures c.open-o.ensures c.ask-w.ensures c.settle-s.ensures
 
 pub returns : goal.returns
-returns c =
-    (handed-left c.args.r c.args.table.now c.args.out.now c.args.input.now c.len_of-slots.result c.len_of-slots.ensures c.open-o.ensures c.ask-w.ensures c.settle-s.ensures c.close.ensures,
-    handed-room c.args.r c.args.table.now c.args.out.now c.args.input.now c.len_of-slots.result c.len_of-slots.ensures c.open-o.ensures c.ask-w.ensures c.settle-s.ensures c.close.ensures)
+returns c = (
+  handed-left c.args.r c.args.table.now c.args.out.now c.args.input.now c.len_of-slots.result c.len_of-slots.ensures c.open-o.ensures c.ask-w.ensures c.settle-s.ensures c.close.ensures,
+  handed-room c.args.r c.args.table.now c.args.out.now c.args.input.now c.len_of-slots.result c.len_of-slots.ensures c.open-o.ensures c.ask-w.ensures c.settle-s.ensures c.close.ensures,
+)

@@ -17,8 +17,9 @@ finish_in-requires c =
 
 pub returns : goal.returns
 returns c =
-    let d = c.args.order in
-    (step_left d.seat c.args.stakes.now d.core c.args.votes.now c.args.timeouts.now c.args.table.now c.args.out.now (record_in d c.args.input.now) c.len_of-slots.result
-      c.len_of-slots.ensures c.begin_in-b.ensures c.work_in-w.ensures c.settle-s.ensures c.finish_in.ensures,
-    step_room d.seat c.args.stakes.now d.core c.args.votes.now c.args.timeouts.now c.args.table.now c.args.out.now (record_in d c.args.input.now) c.len_of-slots.result
-      c.len_of-slots.ensures c.begin_in-b.ensures c.work_in-w.ensures c.settle-s.ensures c.finish_in.ensures)
+    let d = c.args.order in (
+      step_left d.seat c.args.stakes.now d.core c.args.votes.now c.args.timeouts.now c.args.table.now c.args.out.now (record_in d c.args.input.now) c.len_of-slots.result
+          c.len_of-slots.ensures c.begin_in-b.ensures c.work_in-w.ensures c.settle-s.ensures c.finish_in.ensures,
+      step_room d.seat c.args.stakes.now d.core c.args.votes.now c.args.timeouts.now c.args.table.now c.args.out.now (record_in d c.args.input.now) c.len_of-slots.result
+          c.len_of-slots.ensures c.begin_in-b.ensures c.work_in-w.ensures c.settle-s.ensures c.finish_in.ensures,
+    )

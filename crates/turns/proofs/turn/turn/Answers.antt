@@ -3,10 +3,11 @@ use Rattle.turns.proofs.TurnLaws.{turn-left, turn-fits, turn-room}
 use Rattle.turns.proofs.turn.turn.Goals as goal
 
 pub returns : goal.returns
-returns c =
-    (turn-left c.args.run c.args.stakes.now c.args.votes.now c.args.timeouts.now c.args.table.now c.args.out.now c.args.trace.now
+returns c = (
+  turn-left c.args.run c.args.stakes.now c.args.votes.now c.args.timeouts.now c.args.table.now c.args.out.now c.args.trace.now
       c.ahead_of-ahead.ensures c.order_for-order.ensures c.step_in-s.ensures.0 c.step_in-s.auto.out c.close.ensures,
-    turn-fits c.args.run c.args.stakes.now c.args.votes.now c.args.timeouts.now c.args.table.now c.args.out.now c.args.trace.now
+  turn-fits c.args.run c.args.stakes.now c.args.votes.now c.args.timeouts.now c.args.table.now c.args.out.now c.args.trace.now
       c.ahead_of-ahead.ensures c.order_for-order.ensures c.step_in-s.ensures.0 c.step_in-s.auto.out c.close.ensures,
-    turn-room c.args.run c.args.stakes.now c.args.votes.now c.args.timeouts.now c.args.table.now c.args.out.now c.args.trace.now
-      c.ahead_of-ahead.ensures c.order_for-order.ensures c.step_in-s.ensures.0 c.step_in-s.auto.out c.close.ensures c.step_in-s.ensures.1)
+  turn-room c.args.run c.args.stakes.now c.args.votes.now c.args.timeouts.now c.args.table.now c.args.out.now c.args.trace.now
+      c.ahead_of-ahead.ensures c.order_for-order.ensures c.step_in-s.ensures.0 c.step_in-s.auto.out c.close.ensures c.step_in-s.ensures.1,
+)
