@@ -1,8 +1,8 @@
 -- A move to the front within one list, by its turns: what was passed is copied, and what is to come is as it was. And a copy into another list.
 -- Assumes nothing.
-use mathlib.Core.Path.{◌≡◌, refl, ◌∙◌, ap}
+use mathlib.Core.Path.{◌≡◌, refl, ◌∙◌}
 use mathlib.Core.List.{List}
-use Prim.Native.Nat.{ℕ, suc, ◌+◌, ◌-◌, ◌≤◌, ◌<◌}
+use Prim.Native.Nat.{ℕ, suc, ◌+◌, ◌≤◌, ◌<◌}
 use native.Mathlib.Nat.{add_comm}
 use native.Mathlib.Numerals.{add-one}
 use native.Mathlib.Omega.{arith}

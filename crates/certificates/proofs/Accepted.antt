@@ -15,7 +15,6 @@ use Rattle.certificates.specs.declared.numbers.Place.{Place}
 use Rattle.certificates.specs.declared.numbers.Signers.{Signers}
 use Rattle.certificates.specs.declared.messages.Checked.{Checked}
 use Rattle.certificates.specs.declared.messages.Checked.TheVariants.{Accepted, AuthorityReuse, UnknownAuthority, RequiresQuorum, InvalidSignature, Cut}
-use Rattle.certificates.specs.Config.{members_max, stake_of}
 use Rattle.certificates.specs.Signers.{is_in, stake_in, both, words, no_signers, signers_of, weight_of, member, stake_on, shared}
 use Rattle.certificates.specs.Messages.{Form, qc_form, tc_form, verdict_in, count_of, places_in, is_whole, unknown_to, settled_of, check_from, check_part}
 use Rattle.certificates.specs.Messages.{qc_check, tc_check, equals_genesis, embedded_check}

@@ -9,17 +9,16 @@ use native.Mathlib.Omega.{arith}
 use lib.ListN.{length, get_or, take, drop, drop_of_length-le}
 use lib.Seq.{take-suc, drop-cons}
 use lib.Dec.{eqb}
-use borrow.Author.Tests.{eq-eqb, ne_eqb, eqb-false, lt-ltb, le-ltb, ltb-true, lt-leb, le-leb}
-use Rattle.certificates.specs.declared.numbers.Place.{Place}
+use borrow.Author.Tests.{ne_eqb, eqb-false, lt-ltb, le-ltb, ltb-true, lt-leb, le-leb}
 use Rattle.certificates.specs.declared.numbers.Signers.{Signers}
 use Rattle.certificates.specs.declared.messages.Checked.{Checked}
 use Rattle.certificates.specs.declared.messages.Checked.TheVariants.{Accepted, AuthorityReuse, UnknownAuthority, RequiresQuorum, InvalidSignature, Cut}
 use Rattle.certificates.specs.Num.{num_at, nums_at}
 use Rattle.certificates.specs.Config.{members_max, stake_of}
-use Rattle.certificates.specs.Signers.{weight_of, member, stake_on}
+use Rattle.certificates.specs.Signers.{weight_of, member}
 use Rattle.certificates.specs.Messages.{Form, verdict_in, count_of, places_in, is_whole, unknown_to, settled_of, settled_by, check_from, check_part}
 use Rattle.certificates.proofs.Places.{member-take}
-use Rattle.certificates.proofs.Clean.{Clean, Signed}
+use Rattle.certificates.proofs.Clean.{Signed}
 
 -- ---- a known place
 

@@ -1,7 +1,7 @@
 -- Signers of whom none is named twice, with the set that has their places: what is so of none, and what one more keeps. Assumes nothing.
-use Prim.Native.Nat.{ℕ, suc, ◌+◌, ◌*◌, ◌<◌}
+use Prim.Native.Nat.{ℕ, ◌+◌, ◌*◌, ◌<◌}
 use mathlib.Core.Path.{◌≡◌, refl, sym, ap, ◌∙◌}
-use mathlib.Core.Logic.{◌≢◌, by_cases}
+use mathlib.Core.Logic.{by_cases}
 use mathlib.Core.List.{List, [], ◌∷◌, ◌++◌}
 use mathlib.Core.Bool.{false, cond, or-true, or-false}
 use native.Mathlib.Decide.{ℕ_discrete}
@@ -14,7 +14,7 @@ use Rattle.certificates.specs.declared.numbers.Signers.{Signers}
 use Rattle.certificates.specs.Config.{members_max, stake_of}
 use Rattle.certificates.specs.Signers.{word_bits, is_in, count_in, stake_in, add_to, words, no_signers, with_signer, signers_from, signers_of, member, stake_on}
 use Rattle.certificates.proofs.Places.{member-snoc}
-use Rattle.certificates.proofs.Sets.{in-none, in-add-same, in-add-other, count_none, count_add, stake-in-none, stake-in-add, words-room, words-with}
+use Rattle.certificates.proofs.Sets.{in-none, in-add-same, in-add-other, count_none, count_add, stake-in-none, stake-in-add, words-with}
 
 pub record Clean (m ps ws : List ℕ) : Type 0 where
   -- in the set is what is in the list

@@ -14,7 +14,6 @@ use Rattle.certificates.specs.declared.numbers.Place.{Place}
 use Rattle.certificates.specs.declared.numbers.Stake.{Stake}
 use Rattle.certificates.specs.declared.messages.Checked.{Checked}
 use Rattle.certificates.specs.declared.messages.Checked.TheVariants.{Accepted}
-use Rattle.certificates.specs.declared.messages.Authored.{Authored}
 use Rattle.certificates.specs.declared.messages.Authored.TheVariants.{Valid, UnknownAuthority, InvalidSignature}
 use Rattle.certificates.specs.Numbers.{zero_hash, same_hash}
 use Rattle.certificates.specs.Num.{num_at, hash_at}

@@ -1,9 +1,9 @@
 -- What two quorums have in common, over sets of any number of words. Assumes nothing.
-use Prim.Native.Nat.{ℕ, ◌*◌, ◌≤◌, ◌<◌, min}
+use Prim.Native.Nat.{ℕ, ◌*◌, ◌≤◌, ◌<◌}
 use mathlib.Core.Path.{◌≡◌}
 use mathlib.Core.List.{List}
 use native.Mathlib.Omega.{arith}
-use Rattle.certificates.specs.Config.{sum, quorum_from, quorum_of}
+use Rattle.certificates.specs.Config.{sum, quorum_of}
 use Rattle.certificates.specs.Signers.{is_in, stake_in, both, either}
 use Rattle.certificates.proofs.ConfigLaws.{quorum-overlap}
 use Rattle.certificates.proofs.Sets.{in_small, in_both, stake-in-le, stake-either-both, stake-some-more}

@@ -6,9 +6,9 @@ use mathlib.Core.Logic.{◌≢◌, by_cases}
 use mathlib.Core.List.{List, [], ◌∷◌}
 use native.Mathlib.Decide.{dec_lt}
 use native.Mathlib.Omega.{arith}
-use lib.ListN.{length, get_or, take, drop, replicate, length-take, length-drop}
+use lib.ListN.{length, get_or, take, drop, replicate, length-take}
 use lib.Seq.{get_or-take, get_or-drop}
-use lib.Bits.{bit_or, bit_and}
+use lib.Bits.{bit_or}
 use lib.Count.{ones, count_trailing_zeros}
 use lib.Dec.{lit<}
 use lib.Pow.{pow_pos}

@@ -1,7 +1,7 @@
 -- Laws of sets of signers, for those who keep and count them: one more signer, its stake, who is in. They are the laws of `Sets` at one word. Assumes
 -- nothing.
 use Prim.Native.Nat.{ℕ, suc, ◌+◌, ◌/◌, ◌%◌, ◌^◌, ◌≤◌, ◌<◌}
-use mathlib.Core.Path.{◌≡◌, sym, ◌∙◌}
+use mathlib.Core.Path.{◌≡◌, ◌∙◌}
 use mathlib.Core.Logic.{◌≢◌}
 use mathlib.Core.List.{List, []}
 use native.Mathlib.Omega.{arith}

@@ -1,7 +1,7 @@
 -- Laws of START's body: its stakes and keys as the code reads them, one law for each way out, and what follows from a good setup. Assumes nothing.
 use Prim.Native.Nat.{ℕ, zero, suc, ◌+◌, ◌-◌, ◌*◌, ◌≤◌, ◌<◌}
 use mathlib.Core.Path.{◌≡◌, refl, sym, ap, ◌∙◌}
-use mathlib.Core.List.{List, [], ◌∷◌, ◌++◌}
+use mathlib.Core.List.{List, [], ◌∷◌}
 use mathlib.Core.Bool.{Bool, true, false, cond}
 use native.Mathlib.Omega.{arith}
 use native.Mathlib.Numerals.{add-one}
@@ -13,10 +13,10 @@ use Rattle.certificates.specs.declared.numbers.Stake.{Stake}
 use Rattle.certificates.specs.declared.config.Setup.{Setup}
 use Rattle.certificates.specs.declared.config.Setup.TheVariants.{Bad, Total}
 use Rattle.certificates.specs.Num.{le, num_at, nums_at}
-use Rattle.certificates.specs.Config.{members_max, total_max, sum, stake_of, limited, setup_of}
+use Rattle.certificates.specs.Config.{members_max, sum, stake_of, limited, setup_of}
 use Rattle.certificates.specs.Start.{members_at, member_len, key_len, word_len, same_word, member_count, own_place, stakes_in, key_at, keys_from, keys_in, below, ascending, setup_at, padded, loaded_stakes}
 use Rattle.certificates.proofs.Bytes.{single, joined, num-within, length-nums, nums_at_lem}
-use Rattle.certificates.proofs.ConfigLaws.{Within, within, stake-none, setup-many, setup-some}
+use Rattle.certificates.proofs.ConfigLaws.{within, stake-none, setup-many, setup-some}
 
 module _ (body : List ℕ) where
   pub length-stakes : length (stakes_in body) ≡ member_count body

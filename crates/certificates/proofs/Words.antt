@@ -4,7 +4,7 @@ use Prim.Native.Nat.{ℕ, zero, suc, ◌+◌, ◌-◌, ◌*◌, ◌/◌, ◌%◌
 use mathlib.Core.Path.{◌≡◌, refl, sym, ap, ◌∙◌}
 use mathlib.Core.Logic.{◌≢◌, ◌⊎◌, inl, inr, ⊎_elim, by_cases}
 use mathlib.Core.List.{List, [], ◌∷◌}
-use native.Mathlib.Nat.{div-one, pow-suc, mul-zero, zero-mul, one-mul, suc-mul, add-mul, max-add-min, mul-le-mul_right}
+use native.Mathlib.Nat.{div-one, pow-suc, zero-mul, one-mul, suc-mul, add-mul, max-add-min, mul-le-mul_right}
 use native.Mathlib.Decide.{dec_lt}
 use native.Mathlib.Omega.{arith}
 use lib.ListN.{length, get_or, take}

@@ -12,7 +12,7 @@
 --     setup_at body         the total where the body keeps 01's limits, else `Bad`
 --     padded n xs          the first n of a list, with 0 where it has ended
 --     loaded_stakes n body  n stakes by place: the members', then 0
-use Rattle.std.specs.Prelude.{ℕ, zero, suc, ◌+◌, ◌*◌, List, [], ◌∷◌, Bool, true, false, cond, eqb, ltb, leb, length}
+use Rattle.std.specs.Prelude.{ℕ, zero, suc, ◌+◌, List, [], ◌∷◌, Bool, true, false, cond, eqb, ltb, leb, length}
 use Rattle.certificates.specs.declared.config.Setup.{Setup}
 use Rattle.certificates.specs.declared.config.Setup.TheVariants.{Bad}
 use Rattle.certificates.specs.Num.{num_at, nums_at}

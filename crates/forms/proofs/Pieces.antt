@@ -2,9 +2,9 @@
 --     turn-append        more bytes after a record that is answered change nothing
 --     numbers-append     the answers to a part, and then those to what is left of it and the bytes after it, are the answers to the whole
 -- Assumes nothing.
-use mathlib.Core.Path.{◌≡◌, refl, sym, ap}
-use mathlib.Core.List.{List, [], ◌∷◌, ◌++◌}
-use Prim.Native.Nat.{ℕ, zero, suc, ◌+◌, ◌-◌}
+use mathlib.Core.Path.{◌≡◌, refl, ap}
+use mathlib.Core.List.{List, ◌∷◌, ◌++◌}
+use Prim.Native.Nat.{ℕ, zero, suc, ◌-◌}
 use native.Mathlib.Omega.{arith}
 use lib.ListN.{length, drop}
 use lib.Seq.{drop-append-le, drop-drop}
@@ -14,7 +14,7 @@ use Rattle.trace.specs.declared.record.Front.TheVariants.{End, Cut, Small, Recor
 use Rattle.trace.proofs.FrontLaws.{front-append, record-append}
 use Rattle.forms.specs.declared.Turn.{Turn}
 use Rattle.forms.specs.declared.Turn.TheVariants.{Stop, Go}
-use Rattle.forms.specs.Numbers.{number_of, by_front, turn_of}
+use Rattle.forms.specs.Numbers.{by_front, turn_of}
 use Rattle.forms.specs.Run.{numbers_of, used_of}
 use Rattle.forms.proofs.Turns.{go-within}
 use Rattle.forms.proofs.Runs.{numbers-stop, used-stop, numbers-go, used-go}

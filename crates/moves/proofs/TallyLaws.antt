@@ -5,7 +5,7 @@
 --     vote-tallied-full, timeout-tallied-full          at the quorum: what follows from it
 --     vote-tallied-keeps, timeout-tallied-keeps        what is left as it was
 use Prim.Native.Nat.{ℕ, suc, ◌≤◌}
-use mathlib.Core.List.{List, [], ◌∷◌}
+use mathlib.Core.List.{List}
 use mathlib.Core.Path.{◌≡◌, refl, sym, ◌∙◌}
 use native.Mathlib.Nat.{le_refl}
 use lib.ListN.{length}

@@ -9,7 +9,7 @@ use lib.ListN.{length, get_or}
 use lib.Seq.{sets}
 use Rattle.certificates.specs.declared.numbers.Hash.{Hash}
 use Rattle.certificates.specs.declared.messages.QC.{QC}
-use Rattle.outputs.specs.Fields.{Field, hash, digits, hash_bytes, bytes_of}
+use Rattle.outputs.specs.Fields.{Field, digits, hash_bytes, bytes_of}
 use Rattle.outputs.specs.Put.{Put, PutTo}
 use Rattle.outputs.specs.Records.{vote, timeout, tc, make, make_with, commit, sync, clean_proposer, clean_mempool, timer_reset, answer}
 use Rattle.outputs.specs.Records.{qc_fields, entries, places_of, tc_fields, framed, body_of, enc, tc_most, make_with_most}

@@ -1,13 +1,12 @@
 -- A law for each way out of the functions of `stages`. Assumes nothing.
-use Prim.Native.Nat.{ℕ, ◌+◌, ◌-◌, ◌≤◌, ◌<◌}
+use Prim.Native.Nat.{ℕ, ◌+◌, ◌-◌, ◌≤◌}
 use mathlib.Core.Bool.{Bool, true, false, cond}
 use mathlib.Core.List.{List}
 use mathlib.Core.Path.{◌≡◌, refl, sym, ◌∙◌, ap}
 use native.Mathlib.Omega.{arith}
-use borrow.Author.Tests.{eq-eqb, ne_eqb}
-use lib.Dec.{eqb}
-use lib.ListN.{length, take, drop, replicate}
-use Rattle.certificates.specs.Config.{members_max, quorum_from, quorum_of}
+use borrow.Author.Tests.{ne_eqb}
+use lib.ListN.{length, take, drop}
+use Rattle.certificates.specs.Config.{quorum_from, quorum_of}
 use Rattle.certificates.specs.Start.{member_count, own_place, setup_at, loaded_stakes}
 use Rattle.certificates.proofs.ConfigLaws.{quorum-total}
 use Rattle.certificates.proofs.StartLaws.{started as start_of_lem, length-loaded}
@@ -31,8 +30,8 @@ use Rattle.outputs.proofs.Wrote.{wrote_one, wrote_then, wrote-more}
 use Rattle.outputs.specs.Records.{timer_reset, enc, make_size}
 use Rattle.moves.specs.declared.state.Core.{Core}
 use Rattle.moves.specs.declared.state.Ran.{Ran}
-use Rattle.moves.specs.State.{State, whole, with_core, with_committed}
-use Rattle.moves.specs.Outcome.{Outcome, quiet, done, refused, Did, Reached}
+use Rattle.moves.specs.State.{whole, with_committed}
+use Rattle.moves.specs.Outcome.{Outcome, refused, Reached}
 use Rattle.moves.specs.Moves.{make_of, certify_most}
 use Rattle.moves.proofs.Outcomes.{did-quiet, did_more}
 use Rattle.handlers.specs.Sound.{Sound}
@@ -41,7 +40,7 @@ use Rattle.aggregator.specs.Rows.{zeros}
 use Rattle.handlers.proofs.ProposalTheorems.{proposal-goes-on, taken-sound}
 use Rattle.handlers.specs.Votes.{handled_vote, voting, voting_most}
 use Rattle.handlers.specs.Timeouts.{handled_timeout, handled_tc, handled_tick}
-use Rattle.handlers.specs.Proposals.{Proposal, proposal_of, Proposes}
+use Rattle.handlers.specs.Proposals.{proposal_of, Proposes}
 use Rattle.handlers.specs.declared.proposals.Proposed.{Proposed}
 use Rattle.replica.specs.declared.started.Seat.{Seat}
 use Rattle.replica.specs.declared.stages.Handed.{Handed}
@@ -49,10 +48,10 @@ use Rattle.replica.specs.declared.stages.Begun.{Begun}
 use Rattle.replica.specs.declared.stages.Booting.{Booting}
 use Rattle.replica.specs.declared.stages.Booting.TheVariants.{NoRoom, BadSetup, Good}
 use Rattle.replica.specs.declared.stages.Stepped.{Stepped}
-use Rattle.replica.specs.Started.{members_of, sized, started_of, room_for, roomy}
-use Rattle.replica.specs.Step.{new_core, new_seat, new_stakes, new_state, announced, start_outs, announced_most}
-use Rattle.replica.specs.Stages.{Stage, Handled, ended, alone, by_proposal, handled_in, in_seat, ready_in, Filled, Boots, booted_by, booting_of, started_in, is_start, is_bad, by_setup, staged_of, finished_of, early_begun, ran_handed, handed_begun, first_most, Going, Handles, Ongoing, Begins, Finishes}
-use Rattle.replica.proofs.StartedLaws.{Ready, started-ready, sized-has, members-part}
+use Rattle.replica.specs.Started.{members_of, sized, started_of, roomy}
+use Rattle.replica.specs.Step.{new_core, new_seat, new_stakes, announced, announced_most}
+use Rattle.replica.specs.Stages.{Stage, ended, alone, handled_in, ready_in, Filled, Boots, booted_by, booting_of, started_in, is_start, is_bad, staged_of, finished_of, early_begun, ran_handed, handed_begun, first_most, Handles, Ongoing, Begins, Finishes}
+use Rattle.replica.proofs.StartedLaws.{started-ready, sized-has, members-part}
 use Rattle.replica.proofs.StepLaws.{roomy-has}
 
 -- ---- a refusal before anything is done

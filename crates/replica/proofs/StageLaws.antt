@@ -1,8 +1,8 @@
 -- The three parts of an event are the event: `stages-step`. Assumes nothing.
 use Prim.Native.Nat.{ℕ}
 use mathlib.Core.Bool.{Bool, true, false, cond}
-use mathlib.Core.List.{List, [], ◌∷◌, ◌++◌, append-nil}
-use mathlib.Core.Path.{◌≡◌, refl, sym, ◌∙◌, ap}
+use mathlib.Core.List.{List, [], ◌++◌, append-nil}
+use mathlib.Core.Path.{◌≡◌, refl, ◌∙◌, ap}
 use lib.Dec.{eqb}
 use lib.ListN.{length, drop}
 use Rattle.certificates.specs.Start.{setup_at}
@@ -16,18 +16,18 @@ use Rattle.trace.specs.Fields.{block_of}
 use Rattle.certificates.specs.Error.{bad_record, no_room, not_started}
 use Rattle.outputs.specs.Records.{Rec}
 use Rattle.moves.specs.State.{State, with_core, with_committed}
-use Rattle.moves.specs.Outcome.{Step, Outcome, quiet, done, after, refused}
+use Rattle.moves.specs.Outcome.{Outcome, quiet, done, after, refused}
 use Rattle.handlers.specs.Votes.{voting}
 use Rattle.handlers.specs.Proposals.{Proposal}
 use Rattle.synchronizer.specs.declared.table.Slot.{Slot}
 use Rattle.synchronizer.specs.Table.{cleared}
-use Rattle.synchronizer.specs.Settle.{Settlement, settled_of}
+use Rattle.synchronizer.specs.Settle.{Settlement}
 use Rattle.synchronizer.proofs.SettleLaws.{settled-nothing, settled-clear}
 use Rattle.replica.specs.declared.started.Seat.{Seat}
-use Rattle.replica.specs.Started.{members_of, started_of, sized, roomy}
+use Rattle.replica.specs.Started.{members_of, roomy}
 use Rattle.replica.specs.Blocks.{settled_for, settled_step, after_settled, processed, processed_table, going_on, going_on_table}
 use Rattle.replica.specs.Step.{World, Result, refused_in, in_world, new_seat, new_stakes, begun, begun_by, started, sized_in, on_start, on_other, on_kind, handled, stepped}
-use Rattle.replica.specs.Stages.{Stage, Handled, ended, by_proposal, handled_in, in_seat, ready_in, booted_by, started_in, is_start, is_bad, by_setup, staged_of, finished_of, stage_work, followed, concluded, together}
+use Rattle.replica.specs.Stages.{ended, by_proposal, handled_in, in_seat, ready_in, booted_by, started_in, is_start, is_bad, by_setup, staged_of, finished_of, stage_work, followed, concluded, together}
 
 -- what is left of a world
 abbrev left : Seat → List ℕ → List Slot → Outcome → Result

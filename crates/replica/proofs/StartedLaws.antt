@@ -8,11 +8,11 @@ use borrow.Author.Tests.{eq-eqb, ne_eqb, le-leb, lt-leb, lt-ltb, le-ltb, eqb-tru
 use lib.Dec.{eqb, ltb, leb}
 use lib.ListN.{length, take, drop}
 use lib.Seq.{length-take-le}
-use Rattle.certificates.specs.Config.{members_max, total_max, sum, quorum_from, quorum_of, setup_of}
+use Rattle.certificates.specs.Config.{members_max, total_max, sum, setup_of}
 use Rattle.certificates.specs.declared.numbers.Stake.{Stake}
 use Rattle.certificates.specs.declared.config.Setup.{Setup}
 use Rattle.certificates.specs.declared.config.Setup.TheVariants.{Bad, Total}
-use Rattle.certificates.proofs.ConfigLaws.{Within, within}
+use Rattle.certificates.proofs.ConfigLaws.{within}
 use Rattle.aggregator.specs.Tally.{vote_width, timeout_width}
 use Rattle.aggregator.specs.Tallies.{vote_tallies, timeout_tallies, votes_length, timeouts_length, heavy, any_heavy}
 use Rattle.aggregator.proofs.Laws.{light-of, light-more}

@@ -1,6 +1,6 @@
 -- What the code of the three parts did, put together: the room that each part asks for, and that what is left is the definition's.
 -- Assumes nothing.
-use Prim.Native.Nat.{ℕ, ◌+◌, ◌*◌, ◌≤◌}
+use Prim.Native.Nat.{ℕ, ◌+◌, ◌≤◌}
 use mathlib.Core.Bool.{Bool, true, false, cond, true≢false}
 use mathlib.Core.List.{List, [], ◌++◌}
 use mathlib.Core.Path.{◌≡◌, refl, sym, ◌∙◌, ap}
@@ -17,7 +17,7 @@ use Rattle.outputs.specs.Put.{Wrote}
 use Rattle.outputs.proofs.Wrote.{all_none, wrote_then, wrote-length, wrote-start, wrote_count}
 use Rattle.moves.specs.declared.state.Core.{Core}
 use Rattle.moves.specs.State.{State, whole}
-use Rattle.moves.specs.Outcome.{Outcome, refused}
+use Rattle.moves.specs.Outcome.{Outcome}
 use Rattle.synchronizer.specs.declared.table.Slot.{Slot}
 use Rattle.synchronizer.specs.declared.settle.Work.{Work}
 use Rattle.synchronizer.specs.declared.settle.Settled.{Settled}
@@ -29,7 +29,7 @@ use Rattle.replica.specs.declared.stages.Stepped.{Stepped}
 use Rattle.replica.specs.Started.{members_of, slots_max, room_for, roomy}
 use Rattle.replica.specs.Blocks.{slot_for, work_for}
 use Rattle.replica.specs.Step.{World, Result, Left, laid, world, left_by, stepped}
-use Rattle.replica.specs.Stages.{Stage, staged_of, finished_of, no_slot, work_at, stage_work, followed, concluded, together, first_most, Ongoing, Begins, Finishable, Finishes}
+use Rattle.replica.specs.Stages.{Stage, staged_of, finished_of, no_slot, work_at, stage_work, concluded, together, first_most, Ongoing, Begins, Finishable, Finishes}
 use Rattle.replica.proofs.StageLaws.{stages-step}
 
 -- ---- what the table is asked for

@@ -22,7 +22,7 @@ use Rattle.trace.specs.Layout.{tc_body, tc_round, payload_of}
 use Rattle.aggregator.specs.Rows.{zeros}
 use Rattle.moves.specs.declared.state.Core.{Core}
 use Rattle.moves.specs.declared.state.Ran.{Ran}
-use Rattle.moves.specs.State.{State, whole, with_core, with_committed}
+use Rattle.moves.specs.State.{State, with_core, with_committed}
 use Rattle.moves.specs.Outcome.{Outcome, quiet, done, refused, Did}
 use Rattle.handlers.specs.Sound.{Sound}
 use Rattle.handlers.specs.Votes.{handled_vote, voting, voting_most}
@@ -39,7 +39,7 @@ use Rattle.replica.specs.declared.stages.Begun.{Begun}
 use Rattle.replica.specs.declared.stages.Booting.{Booting}
 use Rattle.replica.specs.declared.stages.Booting.TheVariants.{NoRoom, BadSetup, Good}
 use Rattle.replica.specs.declared.stages.Stepped.{Stepped}
-use Rattle.replica.specs.Started.{members_of, started_of, sized, roomy}
+use Rattle.replica.specs.Started.{members_of, started_of, sized}
 use Rattle.replica.specs.Blocks.{work_for}
 use Rattle.replica.specs.Step.{Result, new_seat, new_stakes, new_state, start_outs, announced_most}
 

@@ -15,13 +15,13 @@
 --     Line t b, line           b1 and b0 in the table, by the QCs that name them
 --     Stopped t b last n, settled-stopped     what a block that is answered 30 or 31 met
 use Prim.Native.Nat.{ℕ, zero, suc, ◌+◌, ◌≤◌, ◌<◌}
-use mathlib.Core.Bool.{Bool, true, false, not, cond}
+use mathlib.Core.Bool.{Bool, true, false, cond}
 use mathlib.Core.List.{List, [], ◌∷◌, ◌++◌}
 use mathlib.Core.Logic.{◌⊎◌, inl, inr, by_cases}
 use mathlib.Core.Path.{◌≡◌, refl, sym, ap, ◌∙◌}
 use native.Mathlib.Decide.{ℕ_discrete}
 use native.Mathlib.Omega.{arith}
-use borrow.Author.Tests.{eqb-true, ltb-true, ltb-false, lt-ltb, le-ltb}
+use borrow.Author.Tests.{eqb-true, ltb-true, ltb-false, lt-ltb}
 use lib.Dec.{eqb, ltb}
 use lib.ListN.{length, set, replicate}
 use lib.Seq.{get_or-set_same, get_or-set_other}
@@ -33,7 +33,7 @@ use Rattle.certificates.specs.Error.{wait_parent, table_full, ancestor_absent, r
 use Rattle.synchronizer.specs.declared.table.Slot.{Slot}
 use Rattle.synchronizer.specs.declared.table.Want.{Want}
 use Rattle.synchronizer.specs.declared.ancestors.Parent.{Parent}
-use Rattle.synchronizer.specs.Table.{blank, slot_at, want_digest, want_free, fits, lowest, place_of, stored, cleared, genesis, found_at, parent_of, ancestors_of}
+use Rattle.synchronizer.specs.Table.{blank, slot_at, want_digest, want_free, fits, lowest, place_of, stored, cleared, genesis, parent_of, ancestors_of}
 use Rattle.synchronizer.specs.declared.settle.Work.{Work}
 use Rattle.synchronizer.specs.Walk.{Walk, refused, delivers, and_newer, on_parent, walk_from, walk_of, committed_by, commit_of, no_commit}
 use Rattle.synchronizer.specs.Settle.{answered, is_two_chain, commit_if, linked_of, processed_by, settled_of, block}

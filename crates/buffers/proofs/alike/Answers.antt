@@ -1,8 +1,7 @@
 -- `buffers::alike` meets its contract: the invariant is `Same`, that what was passed is equal.
 -- Assumes nothing.
 use borrow.Author.Rules.{rules}
-use Prim.Native.Nat.{◌-◌}
-use Rattle.buffers.proofs.Sums.{Same, same_start, same_more, same-all, same-until}
+use Rattle.buffers.proofs.Sums.{same_start, same_more, same-all, same-until}
 use Rattle.buffers.proofs.alike.Goals as goal
 
 pub loop-i-init : goal.loop-i-init

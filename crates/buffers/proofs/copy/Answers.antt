@@ -1,8 +1,7 @@
 -- `buffers::copy` meets its contract: the invariant is that i bytes are pasted.
 -- Assumes nothing.
 use borrow.Author.Rules.{rules}
-use Prim.Native.Nat.{◌-◌}
-use Rattle.buffers.proofs.Moves.{Pasted, pasted-none, pasted-more, pasted-all}
+use Rattle.buffers.proofs.Moves.{pasted-none, pasted-more, pasted-all}
 use Rattle.buffers.proofs.copy.Goals as goal
 
 pub loop-i-init : goal.loop-i-init

@@ -3,8 +3,7 @@
 use borrow.Author.Rules.{rules}
 use native.Mathlib.Omega.{arith}
 use mathlib.Core.Path.{refl}
-use Prim.Native.Nat.{◌-◌}
-use Rattle.buffers.proofs.Moves.{Moving, begin, moved, done}
+use Rattle.buffers.proofs.Moves.{begin, moved, done}
 use Rattle.buffers.proofs.shift.Goals as goal
 
 pub loop-i-init : goal.loop-i-init

@@ -1,10 +1,7 @@
 -- `buffers::shift` meets its contract: the invariant is `Moving`: what was passed is copied, and what is to come is as it was.
 -- Assumes nothing.
-use borrow.Author.Rules.{rules}
-use native.Mathlib.Omega.{arith}
-use mathlib.Core.Path.{refl}
 use Prim.Native.Nat.{◌-◌}
-use Rattle.buffers.proofs.Moves.{Moving, begin, moved, done}
+use Rattle.buffers.proofs.Moves.{Moving}
 use Rattle.buffers.proofs.shift.Given as goal
 
 abbrev pub invariant-loop-i : goal.invariant-loop-i

@@ -1,10 +1,6 @@
 -- `buffers::sum_of` meets its contract: the invariant is that the sum is that of the bytes passed.
 -- Assumes nothing.
 use borrow.Author.Rules.{rules}
-use mathlib.Core.Path.{◌≡◌}
-use Prim.Native.Nat.{◌-◌, ◌≤◌}
-use lib.ListN.{length, take}
-use Rattle.buffers.specs.Buffers.{sum_of}
 use Rattle.buffers.proofs.Sums.{sum-none, sum_more, sum-all}
 use Rattle.buffers.proofs.sum_of.Goals as goal
 

@@ -1,6 +1,5 @@
 -- `forms::is_too_long` meets its contract: by what the read ensures.
 -- Assumes nothing.
-use borrow.Author.Rules.{rules}
 use Rattle.forms.proofs.is_too_long.Goals as goal
 
 pub returns : goal.returns

@@ -2,10 +2,8 @@
 -- Assumes nothing.
 use borrow.Author.Rules.{rules}
 use native.Mathlib.Omega.{arith}
-use Prim.Native.Nat.{◌-◌}
-use lib.ListN.{length}
 use Rattle.forms.proofs.Turns.{go-within}
-use Rattle.forms.proofs.Runs.{Going, start, in-trace, turned, stopped, filled}
+use Rattle.forms.proofs.Runs.{start, in-trace, turned, stopped, filled}
 use Rattle.forms.proofs.run.Goals as goal
 
 pub loop-out-init : goal.loop-out-init

@@ -1,11 +1,8 @@
 -- `forms::run` meets its contract: the invariant is `Going`, the measure what is left of the trace, of which each record takes two bytes at least.
 -- Assumes nothing.
-use borrow.Author.Rules.{rules}
-use native.Mathlib.Omega.{arith}
 use Prim.Native.Nat.{◌-◌}
 use lib.ListN.{length}
-use Rattle.forms.proofs.Turns.{go-within}
-use Rattle.forms.proofs.Runs.{Going, start, in-trace, turned, stopped, filled}
+use Rattle.forms.proofs.Runs.{Going}
 use Rattle.forms.proofs.run.Given as goal
 
 abbrev pub invariant-loop-out : goal.invariant-loop-out

@@ -1,12 +1,8 @@
 -- `aggregator::tallies::any_heavy` meets its contract: the loop has shown what the rows of both tables from i on give (`Looked`). The measure is what is left.
 -- Assumes nothing.
-use Prim.Native.Nat.{◌-◌, ◌≤◌}
-use mathlib.Core.Path.{◌≡◌}
 use native.Mathlib.Omega.{arith}
-use lib.ListN.{length}
 use borrow.Author.Rules.{rules}
-use Rattle.aggregator.specs.Tallies.{vote_tallies, votes_length, timeouts_length}
-use Rattle.aggregator.proofs.TableLaws.{Looked, look-start, look-vote, look-timeout, look-past, look-on, look-end}
+use Rattle.aggregator.proofs.TableLaws.{look-start, look-vote, look-timeout, look-past, look-on, look-end}
 use Rattle.aggregator.proofs.tallies.any_heavy.Goals as goal
 use Rattle.aggregator.proofs.tallies.any_heavy.Goals.{then-i-lt-TIMEOUT_TALLIES+else-is_heavy-2, else-i-lt-TIMEOUT_TALLIES}
 

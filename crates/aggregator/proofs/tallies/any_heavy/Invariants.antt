@@ -1,13 +1,10 @@
 -- `aggregator::tallies::any_heavy` meets its contract: the loop has shown what the rows of both tables from i on give (`Looked`). The measure is what is left.
 -- Assumes nothing.
 use Prim.Native.Nat.{◌-◌, ◌≤◌}
-use mathlib.Core.Logic.{⊎_elim}
 use mathlib.Core.Path.{◌≡◌}
-use native.Mathlib.Omega.{arith}
 use lib.ListN.{length}
-use borrow.Author.Rules.{rules}
 use Rattle.aggregator.specs.Tallies.{vote_tallies, votes_length, timeouts_length}
-use Rattle.aggregator.proofs.TableLaws.{Looked, look-start, look-vote, look-timeout, look-past, look-on, look-end}
+use Rattle.aggregator.proofs.TableLaws.{Looked}
 use Rattle.aggregator.proofs.tallies.any_heavy.Given as goal
 
 abbrev pub invariant-loop-i : goal.invariant-loop-i

@@ -1,13 +1,12 @@
 -- `aggregator::tallies::cleanup` meets its contract. The loop: the first i rows are replaced, the others are as they were (`Mapped`). The measure is what is left.
 -- Assumes nothing.
-use Prim.Native.Nat.{◌+◌, ◌-◌, ◌*◌, ◌≤◌}
+use Prim.Native.Nat.{◌+◌, ◌*◌, ◌≤◌}
 use mathlib.Core.Path.{◌≡◌, refl}
 use borrow.Author.Rules.{rules}
 use native.Mathlib.Omega.{arith}
 use lib.ListN.{length}
-use Rattle.aggregator.specs.Tally.{kept}
 use Rattle.aggregator.specs.Tallies.{dropped}
-use Rattle.aggregator.proofs.Rows.{part-row, row-end, row-length, Mapped, map-length, map-part}
+use Rattle.aggregator.proofs.Rows.{part-row, row-end, row-length, map-length, map-part}
 use Rattle.aggregator.proofs.TallyLaws.{kept-length}
 use Rattle.aggregator.proofs.tallies.cleanup.Goals as goal
 use Rattle.aggregator.proofs.tallies.cleanup.Goals.{At-loop-i, In-loop-i}

@@ -1,13 +1,9 @@
 -- `aggregator::tallies::clear` meets its contract. The loop: the first i numbers are 0, the others are as they were. The measure is what is left.
 -- Assumes nothing.
 use Prim.Native.Nat.{◌-◌, ◌≤◌}
-use mathlib.Core.Path.{◌≡◌, refl}
-use borrow.Author.Rules.{rules}
-use native.Mathlib.Omega.{arith}
-use lib.ListN.{length, drop, length-set}
-use mathlib.Core.List.{◌++◌, append-nil}
-use lib.Seq.{drop-length}
-use borrow.Author.Fill.{fill_more}
+use mathlib.Core.Path.{◌≡◌}
+use lib.ListN.{length, drop}
+use mathlib.Core.List.{◌++◌}
 use Rattle.aggregator.specs.Rows.{zeros}
 use Rattle.aggregator.proofs.tallies.clear.Given as goal
 

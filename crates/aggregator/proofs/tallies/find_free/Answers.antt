@@ -1,12 +1,10 @@
 -- `aggregator::tallies::find_free` meets its contract: the loop has shown what the rows from i on give (`Scanned`). The measure is what is left.
 -- Assumes nothing.
-use Prim.Native.Nat.{◌+◌, ◌-◌, ◌*◌, ◌≤◌}
+use Prim.Native.Nat.{◌+◌, ◌*◌, ◌≤◌}
 use native.Mathlib.Omega.{arith}
 use lib.ListN.{length}
 use borrow.Author.Rules.{rules}
-use Rattle.aggregator.specs.Tally.{is_free}
-use Rattle.aggregator.specs.Tallies.{find_free}
-use Rattle.aggregator.proofs.Rows.{row-end, Scanned, scan-end}
+use Rattle.aggregator.proofs.Rows.{row-end, scan-end}
 use Rattle.aggregator.proofs.TableLaws.{free-start, free-hit, free-miss}
 use Rattle.aggregator.proofs.tallies.find_free.Goals as goal
 use Rattle.aggregator.proofs.tallies.find_free.Goals.{In-loop-i}

@@ -1,13 +1,8 @@
 -- `aggregator::tallies::find_timeout` meets its contract: the loop has shown what the rows from i on give (`Scanned`). The measure is what is left.
 -- Assumes nothing.
-use Prim.Native.Nat.{◌-◌, ◌≤◌}
-use mathlib.Core.Path.{◌≡◌}
 use native.Mathlib.Omega.{arith}
-use lib.ListN.{length}
 use borrow.Author.Rules.{rules}
-use Rattle.aggregator.specs.Tally.{timeout_width, of_round}
-use Rattle.aggregator.specs.Tallies.{timeout_tallies, timeouts_length, find_row}
-use Rattle.aggregator.proofs.Rows.{Scanned, scan-end}
+use Rattle.aggregator.proofs.Rows.{scan-end}
 use Rattle.aggregator.proofs.TableLaws.{row-start, of-hit, of-miss}
 use Rattle.aggregator.proofs.tallies.find_timeout.Goals as goal
 

@@ -1,13 +1,8 @@
 -- `aggregator::tallies::find_vote` meets its contract: the loop has shown what the rows from i on give (`Scanned`). The measure is what is left.
 -- Assumes nothing.
-use Prim.Native.Nat.{◌-◌, ◌≤◌}
-use mathlib.Core.Path.{◌≡◌}
 use borrow.Author.Rules.{rules}
 use native.Mathlib.Omega.{arith}
-use lib.ListN.{length}
-use Rattle.aggregator.specs.Tally.{vote_width, is_vote}
-use Rattle.aggregator.specs.Tallies.{vote_tallies, votes_length, find_row}
-use Rattle.aggregator.proofs.Rows.{Scanned, part-hit, part-miss, scan-end}
+use Rattle.aggregator.proofs.Rows.{part-hit, part-miss, scan-end}
 use Rattle.aggregator.proofs.TableLaws.{row-start}
 use Rattle.aggregator.proofs.tallies.find_vote.Goals as goal
 

@@ -1,11 +1,10 @@
 -- `aggregator::tallies::weights_of` meets its contract: the loop has what the first i tallies have (`joined`). The measure is what is left.
 -- Assumes nothing.
-use Prim.Native.Nat.{◌+◌, ◌-◌, ◌*◌, ◌≤◌}
+use Prim.Native.Nat.{◌+◌, ◌*◌, ◌≤◌}
 use mathlib.Core.Path.{◌≡◌}
 use native.Mathlib.Omega.{arith}
 use lib.ListN.{length}
 use borrow.Author.Rules.{rules}
-use Rattle.aggregator.specs.Tallies.{joined}
 use Rattle.aggregator.proofs.Rows.{row-end}
 use Rattle.aggregator.proofs.TableLaws.{joined-none, joined-more}
 use Rattle.aggregator.proofs.tallies.weights_of.Goals as goal

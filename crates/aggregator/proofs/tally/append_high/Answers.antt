@@ -1,7 +1,5 @@
 -- `aggregator::tally::append_high` meets its contract: a law for each way out.
 -- Assumes nothing.
-use mathlib.Core.List.{[], ◌∷◌}
-use types.Run.{miss}
 use borrow.Author.Rules.{rules}
 use Rattle.aggregator.proofs.TallyLaws.{high_used, high-new}
 use Rattle.aggregator.proofs.tally.append_high.Goals as goal

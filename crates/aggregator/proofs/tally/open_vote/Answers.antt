@@ -1,6 +1,5 @@
 -- `aggregator::tally::open_vote` meets its contract: the eight stores write the whole row.
 -- Assumes nothing.
-use borrow.Author.Rules.{rules}
 use mathlib.Core.List.{[], ◌∷◌}
 use native.Mathlib.Omega.{arith}
 use lib.ListN.{length-set}

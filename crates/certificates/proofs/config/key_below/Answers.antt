@@ -2,9 +2,7 @@
 -- what is left. Assumes nothing.
 use borrow.Author.Rules.{rules}
 use native.Mathlib.Omega.{arith}
-use Prim.Native.Nat.{◌+◌, ◌≤◌}
-use Rattle.certificates.specs.Start.{key_len}
-use Rattle.certificates.proofs.StartLaws.{PassedWord, compared-word, Compared, compared-none, compared-less, compared-more, compared_same, compared-all}
+use Rattle.certificates.proofs.StartLaws.{PassedWord, compared-word, compared-none, compared-less, compared-more, compared_same, compared-all}
 use Rattle.certificates.proofs.config.key_below.Goals as goal
 use Rattle.certificates.proofs.config.key_below.Goals.{Then-is_word_same}
 

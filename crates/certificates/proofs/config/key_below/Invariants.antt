@@ -1,10 +1,8 @@
 -- `certificates::config::key_below` meets its contract. The loop's invariant: what is left of the two keys decides as the whole. The measure is
 -- what is left. Assumes nothing.
-use borrow.Author.Rules.{rules}
-use native.Mathlib.Omega.{arith}
 use Prim.Native.Nat.{◌+◌, ◌≤◌}
 use Rattle.certificates.specs.Start.{key_len}
-use Rattle.certificates.proofs.StartLaws.{PassedWord, compared-word, Compared, compared-none, compared-less, compared-more, compared_same, compared-all}
+use Rattle.certificates.proofs.StartLaws.{Compared}
 use Rattle.certificates.proofs.config.key_below.Given as goal
 
 abbrev pub invariant-loop-left : goal.invariant-loop-left

@@ -2,10 +2,7 @@
 -- body of a setup. The measure is how many are left. Assumes nothing.
 use borrow.Author.Rules.{rules}
 use native.Mathlib.Omega.{arith}
-use Prim.Native.Nat.{◌+◌, ◌*◌, ◌≤◌}
-use Rattle.certificates.specs.Config.{members_max}
-use Rattle.certificates.specs.Start.{members_at, member_len}
-use Rattle.certificates.proofs.StartLaws.{Ascended, ascended-none, ascended-more, ascended-not, ascended-all}
+use Rattle.certificates.proofs.StartLaws.{ascended-none, ascended-more, ascended-not, ascended-all}
 use Rattle.certificates.proofs.config.keys_ascend.Goals as goal
 
 pub loop-left-init : goal.loop-left-init

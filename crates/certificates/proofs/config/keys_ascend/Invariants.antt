@@ -1,11 +1,9 @@
 -- `certificates::config::keys_ascend` meets its contract. The loop's invariant: the keys that are left ascend where all do, and lie within the
 -- body of a setup. The measure is how many are left. Assumes nothing.
-use borrow.Author.Rules.{rules}
-use native.Mathlib.Omega.{arith}
 use Prim.Native.Nat.{◌+◌, ◌*◌, ◌≤◌}
 use Rattle.certificates.specs.Config.{members_max}
 use Rattle.certificates.specs.Start.{members_at, member_len}
-use Rattle.certificates.proofs.StartLaws.{Ascended, ascended-none, ascended-more, ascended-not, ascended-all}
+use Rattle.certificates.proofs.StartLaws.{Ascended}
 use Rattle.certificates.proofs.config.keys_ascend.Given as goal
 
 abbrev pub invariant-loop-left : goal.invariant-loop-left

@@ -1,10 +1,8 @@
 -- `certificates::config::load` meets its contract. The loop's invariant: the slice has its length, and its first i places hold what they shall.
 -- The measure is what is left of the length. Assumes nothing.
-use borrow.Author.Rules.{rules}
 use native.Mathlib.Omega.{arith}
-use Prim.Native.Nat.{◌-◌, ◌≤◌}
-use lib.ListN.{length, length-set}
-use Rattle.certificates.proofs.StartLaws.{Loaded, loaded-none, loaded-more, loaded-all}
+use lib.ListN.{length-set}
+use Rattle.certificates.proofs.StartLaws.{loaded-none, loaded-more, loaded-all}
 use Rattle.certificates.proofs.config.load.Goals as goal
 
 pub loop-i-init : goal.loop-i-init

@@ -1,10 +1,8 @@
 -- `certificates::config::load` meets its contract. The loop's invariant: the slice has its length, and its first i places hold what they shall.
 -- The measure is what is left of the length. Assumes nothing.
-use borrow.Author.Rules.{rules}
-use native.Mathlib.Omega.{arith}
 use Prim.Native.Nat.{◌-◌, ◌≤◌}
-use lib.ListN.{length, length-set}
-use Rattle.certificates.proofs.StartLaws.{Loaded, loaded-none, loaded-more, loaded-all}
+use lib.ListN.{length}
+use Rattle.certificates.proofs.StartLaws.{Loaded}
 use Rattle.certificates.proofs.config.load.Given as goal
 
 abbrev pub invariant-loop-i : goal.invariant-loop-i

@@ -1,11 +1,8 @@
 -- `certificates::config::sum_any` meets its contract. The loop's invariant: the sum is that of the first i stakes, and at most i times the
 -- largest. The measure is what is left of the length. Assumes nothing.
-use borrow.Author.Rules.{rules}
 use native.Mathlib.Omega.{arith}
-use Prim.Native.Nat.{◌*◌, ◌-◌, ◌≤◌}
 use mathlib.Core.Path.{refl}
-use lib.ListN.{length}
-use Rattle.certificates.proofs.ConfigLaws.{stake_max, Summed, summed-none, summed-more, summed-all}
+use Rattle.certificates.proofs.ConfigLaws.{summed-none, summed-more, summed-all}
 use Rattle.certificates.proofs.config.sum_any.Goals as goal
 
 pub loop-i-init : goal.loop-i-init

@@ -1,12 +1,8 @@
 -- `certificates::config::sum_in` meets its contract. The loop's invariant: the sum is that of the first i stakes, and at most i times the
 -- largest. The measure is what is left of the count. Assumes nothing.
-use borrow.Author.Rules.{rules}
-use native.Mathlib.Omega.{arith}
 use Prim.Native.Nat.{◌*◌, ◌-◌, ◌≤◌}
-use mathlib.Core.Path.{◌∙◌, sym}
 use Rattle.certificates.specs.Start.{stakes_in}
-use Rattle.certificates.proofs.ConfigLaws.{stake_max, Summed, summed-none, summed-more, summed-all, stake-at}
-use Rattle.certificates.proofs.StartLaws.{length-stakes}
+use Rattle.certificates.proofs.ConfigLaws.{stake_max, Summed}
 use Rattle.certificates.proofs.config.sum_in.Given as goal
 
 abbrev pub invariant-loop-i : goal.invariant-loop-i

@@ -2,10 +2,8 @@
 -- and at most i times the least large one. The measure is what is left of the length. Assumes nothing.
 use borrow.Author.Rules.{rules}
 use native.Mathlib.Omega.{arith}
-use Prim.Native.Nat.{◌*◌, ◌-◌, ◌≤◌}
 use mathlib.Core.Path.{refl}
-use lib.ListN.{length}
-use Rattle.certificates.proofs.ConfigLaws.{large, SmallSum, small-none, small-more, small_all}
+use Rattle.certificates.proofs.ConfigLaws.{small-none, small-more, small_all}
 use Rattle.certificates.proofs.config.sum_stakes.Goals as goal
 
 pub loop-i-init : goal.loop-i-init

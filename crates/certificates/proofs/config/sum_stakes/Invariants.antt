@@ -1,11 +1,8 @@
 -- `certificates::config::sum_stakes` meets its contract. The loop's invariant: the sum is that of the first i stakes where none of them is large,
 -- and at most i times the least large one. The measure is what is left of the length. Assumes nothing.
-use borrow.Author.Rules.{rules}
-use native.Mathlib.Omega.{arith}
 use Prim.Native.Nat.{◌*◌, ◌-◌, ◌≤◌}
-use mathlib.Core.Path.{refl}
 use lib.ListN.{length}
-use Rattle.certificates.proofs.ConfigLaws.{large, SmallSum, small-none, small-more, small_all}
+use Rattle.certificates.proofs.ConfigLaws.{large, SmallSum}
 use Rattle.certificates.proofs.config.sum_stakes.Given as goal
 
 abbrev pub invariant-loop-i : goal.invariant-loop-i

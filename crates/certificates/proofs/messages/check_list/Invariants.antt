@@ -1,21 +1,14 @@
 -- `certificates::messages::check_list` meets its contract. The outer loop's invariant: the first i signers are in the set and none is named twice, and
 -- the check of the whole list is the check of the rest after them. The inner loop's: the signer at i is not among the first j. Where the label leaves
 -- both loops, and where the signers end, what is then known picks the case of the definition. The measures are the signers left. Assumes nothing.
-use borrow.Author.Rules.{rules}
-use native.Mathlib.Omega.{arith}
-use Prim.Native.Nat.{ℕ, ◌+◌, ◌-◌, ◌*◌, ◌≤◌, ◌<◌}
-use mathlib.Core.Path.{◌≡◌, refl, sym, ◌∙◌}
-use mathlib.Core.List.{List}
+use Prim.Native.Nat.{◌-◌, ◌≤◌}
+use mathlib.Core.Path.{◌≡◌}
 use mathlib.Core.Bool.{false}
-use lib.ListN.{length, get_or, take}
-use Rattle.certificates.specs.Num.{num_at, nums_at}
+use lib.ListN.{take}
+use Rattle.certificates.specs.Num.{nums_at}
 use Rattle.certificates.specs.Signers.{member}
-use Rattle.certificates.specs.Messages.{unknown_to}
-use Rattle.certificates.proofs.Bytes.{length-nums}
-use Rattle.certificates.proofs.Places.{entry-within, member-more}
-use Rattle.certificates.proofs.Words.{shift_one}
-use Rattle.certificates.proofs.Clean.{Signed, signed-none, signed-take}
-use Rattle.certificates.proofs.Check.{Known, known, Walk, walk_none, at-end, at-repeat, at-unknown, at-known}
+use Rattle.certificates.proofs.Clean.{Signed}
+use Rattle.certificates.proofs.Check.{Walk}
 use Rattle.certificates.proofs.messages.check_list.Given as goal
 
 abbrev pub invariant-loop-j : goal.invariant-loop-j

@@ -4,7 +4,6 @@ use Prim.Native.Nat.{◌+◌}
 use lib.ListN.{length}
 use Rattle.certificates.proofs.Bytes.{leb_yes, leb_no}
 use native.Mathlib.Omega.{arith}
-use borrow.Author.Rules.{rules}
 use Rattle.certificates.proofs.num.holds.Goals as goal
 
 pub returns-then-at-s : goal.returns-then-at-s

@@ -1,7 +1,6 @@
 -- `certificates::num::raw16` meets its contract: two reads of one byte are one of two (`joined`).
 -- Assumes nothing.
 use Rattle.certificates.proofs.Bytes.{joined}
-use borrow.Author.Rules.{rules}
 use Rattle.certificates.proofs.num.raw16.Goals as goal
 
 pub returns : goal.returns

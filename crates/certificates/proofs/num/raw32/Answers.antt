@@ -1,7 +1,6 @@
 -- `certificates::num::raw32` meets its contract: two reads of two bytes are one of four (`joined`).
 -- Assumes nothing.
 use Rattle.certificates.proofs.Bytes.{joined}
-use borrow.Author.Rules.{rules}
 use Rattle.certificates.proofs.num.raw32.Goals as goal
 
 pub returns : goal.returns

@@ -1,7 +1,6 @@
 -- `certificates::num::raw64` meets its contract: two reads of four bytes are one of eight (`joined`).
 -- Assumes nothing.
 use Rattle.certificates.proofs.Bytes.{joined}
-use borrow.Author.Rules.{rules}
 use Rattle.certificates.proofs.num.raw64.Goals as goal
 
 pub returns : goal.returns

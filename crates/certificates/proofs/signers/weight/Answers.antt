@@ -1,8 +1,7 @@
 -- `certificates::signers::weight` meets its contract. The loop's invariant: what has been summed and the stake of what is left of the word make
 -- the stake of the whole word. Each turn takes the lowest place off what is left, which is the measure. Assumes nothing.
-use borrow.Author.Rules.{rules}
 use native.Mathlib.Omega.{arith}
-use Prim.Native.Nat.{ℕ, ◌+◌, ◌^◌, ◌<◌}
+use Prim.Native.Nat.{◌^◌, ◌<◌}
 use mathlib.Core.Path.{◌≡◌}
 use lib.ListN.{take}
 use lib.Count.{count_trailing_zeros}

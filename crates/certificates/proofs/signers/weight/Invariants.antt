@@ -1,13 +1,9 @@
 -- `certificates::signers::weight` meets its contract. The loop's invariant: what has been summed and the stake of what is left of the word make
 -- the stake of the whole word. Each turn takes the lowest place off what is left, which is the measure. Assumes nothing.
-use borrow.Author.Rules.{rules}
-use native.Mathlib.Omega.{arith}
-use Prim.Native.Nat.{ℕ, ◌+◌, ◌^◌, ◌<◌}
+use Prim.Native.Nat.{◌+◌, ◌^◌, ◌<◌}
 use mathlib.Core.Path.{◌≡◌}
 use lib.ListN.{take}
-use lib.Count.{count_trailing_zeros}
 use Rattle.certificates.specs.Signers.{word_bits, sum_at}
-use Rattle.certificates.proofs.Sets.{Lowest, lowest, word_small, word_none, word-weight}
 use Rattle.certificates.proofs.signers.weight.Given as goal
 
 abbrev pub invariant-loop-left : goal.invariant-loop-left

@@ -1,6 +1,5 @@
 -- `handlers::checks::signers_of` meets its contract: each arm by what the match told.
 -- Assumes nothing.
-use borrow.Author.Rules.{rules}
 use Rattle.handlers.proofs.checks.signers_of.Goals as goal
 
 pub returns-in-AuthorityReuse : goal.returns-in-AuthorityReuse

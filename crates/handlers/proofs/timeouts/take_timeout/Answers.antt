@@ -1,6 +1,5 @@
 -- `handlers::timeouts::take_timeout` meets its contract: the QC is taken, which leaves the record sound, and the timeout counted, short of the
 -- quorum or with it. Assumes nothing.
-use borrow.Author.Rules.{rules}
 use native.Mathlib.Omega.{arith}
 use Rattle.aggregator.proofs.Laws.{timeout-below}
 use Rattle.moves.proofs.TallyLaws.{timeout-tallied-short, timeout-tallied-full}

@@ -1,14 +1,11 @@
 -- `outputs::put::put_entries` meets its contract. The loop's invariant: the entries of the places that are left, written from here on, make all of
 -- them (`Left` of `Recs`). Each turn takes the lowest place off the rest, which is the measure.
 -- Assumes nothing.
-use Prim.Native.Nat.{◌^◌, ◌<◌}
-use mathlib.Core.Path.{◌≡◌}
 use native.Mathlib.Omega.{arith}
 use lib.Count.{count_trailing_zeros}
-use lib.ListN.{length}
 use borrow.Author.Rules.{rules}
 use Rattle.outputs.proofs.Places.{ones-most, Lowest, lowest}
-use Rattle.outputs.proofs.Recs.{Left, left-all, left_less, left-none}
+use Rattle.outputs.proofs.Recs.{left-all, left_less, left-none}
 use Rattle.outputs.proofs.put.put_entries.Goals as goal
 use Rattle.outputs.proofs.put.put_entries.Goals.{In-loop-left}
 

@@ -3,12 +3,8 @@
 -- Assumes nothing.
 use Prim.Native.Nat.{◌^◌, ◌<◌}
 use mathlib.Core.Path.{◌≡◌}
-use native.Mathlib.Omega.{arith}
-use lib.Count.{count_trailing_zeros}
 use lib.ListN.{length}
-use borrow.Author.Rules.{rules}
-use Rattle.outputs.proofs.Places.{ones-most, Lowest, lowest}
-use Rattle.outputs.proofs.Recs.{Left, left-all, left_less, left-none}
+use Rattle.outputs.proofs.Recs.{Left}
 use Rattle.outputs.proofs.put.put_entries.Given as goal
 
 abbrev pub invariant-loop-left : goal.invariant-loop-left

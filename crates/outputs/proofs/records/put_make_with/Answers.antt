@@ -1,6 +1,5 @@
 -- `outputs::records::put_make_with` meets its contract: its fields in a row are the record (a law of `Recs`).
 -- Assumes nothing.
-use borrow.Author.Rules.{rules}
 use Rattle.outputs.proofs.Recs.{make-with-put}
 use Rattle.outputs.proofs.records.put_make_with.Goals as goal
 

@@ -1,6 +1,5 @@
 -- `synchronizer::ancestors::wanted_parent` meets its contract.
 -- Assumes nothing.
-use borrow.Author.Rules.{rules}
 use Rattle.synchronizer.proofs.ancestors.wanted_parent.Goals as goal
 
 pub returns : goal.returns

@@ -1,7 +1,6 @@
 -- `synchronizer::commit::child_of` meets its contract.
 -- Assumes nothing.
 use borrow.Author.Tests.{lt-ltb, le-ltb}
-use borrow.Author.Rules.{rules}
 use Rattle.synchronizer.proofs.commit.child_of.Goals as goal
 
 pub returns-then-c-gt1 : goal.returns-then-c-gt1

@@ -1,9 +1,5 @@
 -- `trace::events::highs_of` meets its contract. The loop: the slice is what the first i entries leave. The measure is what is left of the count.
 -- Assumes nothing.
-use Prim.Native.Nat.{◌-◌, ◌≤◌}
-use mathlib.Core.Path.{◌≡◌}
-use lib.ListN.{length}
-use Rattle.trace.specs.Layout.{highs_up_to}
 use Rattle.trace.proofs.Layouts.{highs-none, highs-more, highs-last}
 use borrow.Author.Rules.{rules}
 use Rattle.trace.proofs.events.highs_of.Goals as goal

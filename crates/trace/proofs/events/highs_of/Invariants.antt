@@ -4,8 +4,6 @@ use Prim.Native.Nat.{◌-◌, ◌≤◌}
 use mathlib.Core.Path.{◌≡◌}
 use lib.ListN.{length}
 use Rattle.trace.specs.Layout.{highs_up_to}
-use Rattle.trace.proofs.Layouts.{highs-none, highs-more, highs-last}
-use borrow.Author.Rules.{rules}
 use Rattle.trace.proofs.events.highs_of.Given as goal
 
 abbrev pub invariant-loop-i : goal.invariant-loop-i

@@ -1,8 +1,5 @@
 -- `trace::events::largest_high` meets its contract. The loop: `high` is the largest of the first i entries. The measure is what is left of the count.
 -- Assumes nothing.
-use Prim.Native.Nat.{◌-◌, ◌≤◌}
-use mathlib.Core.Path.{◌≡◌}
-use Rattle.trace.specs.Layout.{highs_in, largest}
 use Rattle.trace.proofs.Layouts.{high-none, high-more, high-last}
 use borrow.Author.Rules.{rules}
 use Rattle.trace.proofs.events.largest_high.Goals as goal

@@ -3,8 +3,6 @@
 use Prim.Native.Nat.{◌-◌, ◌≤◌}
 use mathlib.Core.Path.{◌≡◌}
 use Rattle.trace.specs.Layout.{highs_in, largest}
-use Rattle.trace.proofs.Layouts.{high-none, high-more, high-last}
-use borrow.Author.Rules.{rules}
 use Rattle.trace.proofs.events.largest_high.Given as goal
 
 abbrev pub invariant-loop-i : goal.invariant-loop-i

@@ -1,6 +1,5 @@
 -- `trace::record::record_of` meets its contract: the arm's equation says which constructor the front is.
 -- Assumes nothing.
-use borrow.Author.Rules.{rules}
 use Rattle.trace.proofs.record.record_of.Goals as goal
 
 pub returns-in-Small : goal.returns-in-Small

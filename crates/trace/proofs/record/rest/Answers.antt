@@ -1,6 +1,5 @@
 -- `trace::record::rest` meets its contract: the arm's equation says which constructor the front is.
 -- Assumes nothing.
-use borrow.Author.Rules.{rules}
 use Rattle.trace.proofs.record.rest.Goals as goal
 
 pub returns-in-Small : goal.returns-in-Small
