@@ -1,10 +1,10 @@
 -- 30 and 31 cannot occur where the premises of W11 hold: a host that sees one of them knows that a premise is broken. A grandparent is never absent in any course, since a
 -- block is stored only where its parent is and nothing is removed; the walk needs the premises. Assumes nothing.
 --     stops-never       of a member that obeys no event is answered 30 or 31
-use Prim.Native.Nat.{ℕ, suc, ◌+◌, ◌≤◌, ◌<◌}
+use Prim.Native.Nat.{ℕ, suc, ◌+◌, ◌<◌}
 use mathlib.Core.Bool.{Bool, true, false}
 use mathlib.Core.List.{List}
-use mathlib.Core.Logic.{◌⊎◌, inl, inr, ⊎_elim}
+use mathlib.Core.Logic.{◌⊎◌, inl, ⊎_elim}
 use mathlib.Core.Path.{◌≡◌, refl, sym, ap, ◌∙◌}
 use native.Mathlib.Omega.{arith}
 use Rattle.certificates.specs.Error.{ancestor_absent, round_not_below}
@@ -24,7 +24,7 @@ use Rattle.runs.proofs.Quorums.{positive}
 use Rattle.runs.proofs.Answers.{stopped}
 use Rattle.runs.proofs.CourseLives.{world_at, event_at, result_at, block_in, total, started-at, closed_at}
 use Rattle.runs.proofs.Parties.{party_of, sitting, trusted}
-use Rattle.cabinets.specs.Contents.{Content, content_of}
+use Rattle.cabinets.specs.Contents.{content_of}
 use Rattle.cabinets.specs.Rules.{Blocks, below, Backed, Rules, child-of}
 use Rattle.cabinets.specs.Ledgers.{Cabinets}
 use Rattle.cabinets.proofs.Chain.{sound}

@@ -7,7 +7,7 @@ use mathlib.Core.List.{List, [], ◌∷◌, ◌++◌, map, append-nil}
 use mathlib.Core.Path.{◌≡◌, refl, sym, ap, ◌∙◌}
 use native.Mathlib.Omega.{arith}
 use borrow.Author.Tests.{le-leb}
-use lib.Dec.{eqb, leb}
+use lib.Dec.{eqb}
 use lib.ListN.{length, take, drop, length-append}
 use lib.Seq.{take-append_seam}
 use Rattle.certificates.specs.Num.{num_at}
@@ -17,7 +17,7 @@ use Rattle.outputs.proofs.Wrote.{all_none, all_one, all_append}
 use Rattle.outputs.proofs.ReadBack.{head-back, rest_back}
 use Rattle.runs.specs.Runs.{only, is_commit, delivered_in}
 use Rattle.runs.specs.Courses.{Course, Stage, outs_of, outputs}
-use Rattle.runs.specs.Calls.{Call, stage_of, written}
+use Rattle.runs.specs.Calls.{stage_of, written}
 use Rattle.runs.proofs.Calls.{bytes-by-definition}
 use Rattle.cabinets.specs.Bytes.{commit_kind, commits_from, commits_in, Calls}
 

@@ -4,7 +4,7 @@
 --     stored             the table holds what was offered
 --     votes, commits     votes and commits
 --     keeps              all of it
-use Prim.Native.Nat.{ℕ, zero, suc, ◌+◌, ◌≤◌, ◌<◌}
+use Prim.Native.Nat.{ℕ, zero, suc, ◌≤◌, ◌<◌}
 use mathlib.Core.Bool.{Bool, true, false, cond}
 use mathlib.Core.List.{List, [], ◌∷◌, ◌++◌, map, append_assoc}
 use mathlib.Core.Logic.{◌⊎◌, inl, inr, ⊎_elim}

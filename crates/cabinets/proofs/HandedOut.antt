@@ -1,6 +1,6 @@
 -- A member that obeys hands out true certificates where the results that it was given are true. Assumes nothing.
 --     handed_out       every record that it writes
-use Prim.Native.Nat.{ℕ, zero, suc}
+use Prim.Native.Nat.{ℕ}
 use mathlib.Core.Bool.{Bool, true, false}
 use mathlib.Core.List.{[], append-nil}
 use mathlib.Core.Logic.{⊎_elim}
@@ -16,7 +16,7 @@ use Rattle.runs.specs.Runs.{step_on, Written, is_signed}
 use Rattle.runs.specs.Courses.{Course, origin, outs_of, outputs}
 use Rattle.runs.specs.Signed.{Members, Sits}
 use Rattle.runs.proofs.Lists.{written-only, written_none, written_either}
-use Rattle.runs.proofs.Kept.{Backed, first, backed, Kept, kept_new, Makes, Writes, Good, every-written}
+use Rattle.runs.proofs.Kept.{Backed, first, backed, Kept, Makes, Writes, Good, every-written}
 use Rattle.runs.proofs.Handled.{Mine}
 use Rattle.runs.proofs.Results.{SureEvent, sure-bad}
 use Rattle.runs.proofs.Steps.{step_in, start-silent}

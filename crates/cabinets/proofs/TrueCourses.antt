@@ -27,7 +27,7 @@ use Rattle.runs.proofs.Results.{SureEvent, sure-bad, good-step}
 use Rattle.runs.proofs.Steps.{step_in}
 use Rattle.runs.proofs.Restart.{leaves_kept}
 use Rattle.runs.proofs.Rounds.{course-starts}
-use Rattle.runs.proofs.Time.{idle, idle-bad, Split, split}
+use Rattle.runs.proofs.Time.{idle-bad, Split, split}
 use Rattle.runs.proofs.CourseLives.{world_at, stage_at, event_at, total, result_at, world-first, world-next, started-at, seat-at, written_at}
 use Rattle.runs.proofs.Parties.{party_of, sits, cast, expired, quorum-of}
 use Rattle.cabinets.specs.Ledgers.{Cabinets}

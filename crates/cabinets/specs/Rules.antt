@@ -10,7 +10,7 @@
 --     Rules                   all of them, of all members that obey
 --     Starts xs ys            xs is the start of ys
 --     Extends a d             block d has block a among its ancestors, or is a
-use Rattle.std.specs.Prelude.{ℕ, zero, suc, ◌≤◌, ◌<◌, ◌≡◌, ◌⊎◌, List, [], ◌∷◌, ◌++◌}
+use Rattle.std.specs.Prelude.{ℕ, suc, ◌≤◌, ◌<◌, ◌≡◌, ◌⊎◌, List, [], ◌∷◌, ◌++◌}
 use Rattle.certificates.specs.declared.numbers.Hash.{Hash}
 use Rattle.runs.specs.Lives.{Life, Party, Sitting, Certified, Ended, Trusted}
 

@@ -23,7 +23,7 @@ use Rattle.replica.specs.Started.{slots_max, room_for, roomy}
 use Rattle.replica.specs.Stages.{is_bad}
 use Rattle.replica.specs.Step.{World, Left, world, stepped, laid, left_by, started, on_start, on_other, on_kind}
 use Rattle.replica.proofs.Theorems.{bad-record, refused-left}
-use Rattle.nickelhush.specs.Memory.{seat_length, core_length, fit, ready, seat_of, core_of, seat_numbers, core_numbers, Lent, lent, world_of, packed, written_most, handed, handed_by, unfit_answer, hosted, taken_of, sizes, size_of, room_of}
+use Rattle.nickelhush.specs.Memory.{seat_length, core_length, fit, ready, seat_of, core_of, seat_numbers, core_numbers, lent, world_of, packed, written_most, handed, handed_by, unfit_answer, hosted, taken_of, sizes, size_of, room_of}
 
 -- ---- the lengths of the seat and the core
 

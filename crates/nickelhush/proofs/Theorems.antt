@@ -5,8 +5,8 @@
 --     host-past                    "Output bytes past the written count never change."
 --     unfit-unchanged, unfit-as-unsized    a seat or a core of another length: nothing changes, and the answer is that of stakes of another length
 --     new-not-started              zeros count as not started
-use Prim.Native.Nat.{ℕ, ◌+◌, ◌*◌, ◌/◌, ◌%◌, ◌<◌}
-use mathlib.Core.Bool.{Bool, true, false, cond}
+use Prim.Native.Nat.{ℕ, ◌/◌, ◌%◌, ◌<◌}
+use mathlib.Core.Bool.{Bool, true, false}
 use mathlib.Core.List.{List}
 use mathlib.Core.Path.{◌≡◌, refl, sym, ◌∙◌}
 use native.Mathlib.Omega.{arith}

@@ -33,7 +33,6 @@ use Rattle.trace.specs.Limits.{counts_of, rounds_of, empty_tc as has_empty_tc, l
 use Rattle.aggregator.specs.declared.tallies.Added.{Added}
 use Rattle.aggregator.specs.declared.tallies.Added.TheVariants.{NoRoom, Used, More, Full}
 use Rattle.aggregator.specs.Tallies.{timeout_added, timeouts_after}
-use Rattle.synchronizer.specs.declared.table.Slot.{Slot}
 use Rattle.synchronizer.proofs.Lookups.{Stopped, settled-stopped}
 use Rattle.moves.specs.State.{State}
 use Rattle.moves.specs.Outcome.{Step, Outcome, done, after, refused, checked}
@@ -42,12 +41,12 @@ use Rattle.moves.proofs.TallyLaws.{timeout-tallied-is}
 use Rattle.handlers.specs.Sound.{first, signers_of}
 use Rattle.handlers.specs.Votes.{vote_check, handled_vote}
 use Rattle.handlers.specs.Timeouts.{timeout_check, timeout_taken, timeout_with, handled_timeout, tc_taken, stale_if, tc_with, handled_tc, ticked, own_timeout, handled_tick}
-use Rattle.handlers.specs.Proposals.{leader_check, qc_found, tc_number, proposal_check, taken, payload_number, by_payload, proposal_of}
+use Rattle.handlers.specs.Proposals.{leader_check, qc_found, tc_number, proposal_check, taken, payload_number, by_payload}
 use Rattle.handlers.proofs.VoteTheorems.{Votes, tallied-votes}
 use Rattle.handlers.proofs.ProposalTheorems.{proposal-refused, proposal-takes, certificates-keep}
 use Rattle.replica.specs.Started.{roomy}
-use Rattle.replica.specs.Blocks.{slot_for, work_for, settled_for, processed, going_on, going_on_table}
-use Rattle.replica.specs.Step.{World, Result, refused_in, committee, handled, stepped}
+use Rattle.replica.specs.Blocks.{slot_for, work_for, settled_for, processed, going_on}
+use Rattle.replica.specs.Step.{World, Result, committee, handled, stepped}
 use Rattle.replica.proofs.StartedLaws.{started-ready}
 use Rattle.runs.specs.Runs.{Event, step_on, committed_of}
 use Rattle.runs.specs.Passed.{Waits, Passed, Looped}

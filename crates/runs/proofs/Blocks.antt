@@ -36,7 +36,7 @@ use Rattle.moves.specs.Moves.{advanced, raised, taken_qc}
 use Rattle.moves.specs.Tallied.{qc_of}
 use Rattle.moves.proofs.MoveLaws.{Keeps, taken-keeps, taken_is}
 use Rattle.handlers.specs.Sound.{signers_of}
-use Rattle.handlers.specs.Votes.{voted, voting}
+use Rattle.handlers.specs.Votes.{voting}
 use Rattle.handlers.specs.Proposals.{qc_found, taken, proposal_of}
 use Rattle.handlers.proofs.ProposalTheorems.{proposal-goes-on, proposal-keeps, advanced-tc-keeps}
 use Rattle.replica.specs.Blocks.{slot_for, work_for, settled_for, settled_step, after_settled, processed, processed_table, going_on, going_on_table}

@@ -6,7 +6,7 @@
 --     bytes-by-definition        .. and the bytes that were written are those of the definition's records
 --     runs-unique                calls that were lent the same left the same
 use Prim.Native.Nat.{ℕ}
-use mathlib.Core.List.{List, [], ◌∷◌, ◌++◌, map}
+use mathlib.Core.List.{List, [], ◌∷◌, map}
 use mathlib.Core.Path.{◌≡◌, refl, sym, ◌∙◌, ap}
 use lib.ListN.{length, take, drop}
 use lib.Seq.{take-append_seam}

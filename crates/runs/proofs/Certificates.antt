@@ -4,7 +4,7 @@
 --     qc-places, tc-places              a certificate's list, read back from its bytes
 --     quorate-qc, quorate-tc            a quorum of members with stake is accepted
 --     genesis-good, quorate-good        .. inside a block or a timeout; and so is genesis
-use Prim.Native.Nat.{ℕ, zero, suc, ◌+◌, ◌-◌, ◌*◌, ◌/◌, ◌%◌, ◌^◌, ◌≤◌, ◌<◌}
+use Prim.Native.Nat.{ℕ, zero, suc, ◌+◌, ◌*◌, ◌/◌, ◌%◌, ◌^◌, ◌≤◌, ◌<◌}
 use mathlib.Core.Bool.{Bool, true, false, cond}
 use mathlib.Core.List.{List, [], ◌∷◌, ◌++◌, map, append_assoc}
 use mathlib.Core.Logic.{◌≢◌, ◌⊎◌, inl, inr, ⊎_elim}
@@ -29,7 +29,7 @@ use Rattle.certificates.proofs.Places.{member-take}
 use Rattle.certificates.proofs.Accepted.{Distinct, named-accepted, qc-part, tc-part, embedded-part, certified, walked-distinct}
 use Rattle.certificates.proofs.Sets.{in-low}
 use Rattle.certificates.proofs.Theorems.{genesis-accepted}
-use Rattle.outputs.specs.Fields.{number, hash, digits, hash_bytes, bytes_of}
+use Rattle.outputs.specs.Fields.{number, digits, hash_bytes, bytes_of}
 use Rattle.outputs.specs.Records.{places_from, places_of, entries}
 use Rattle.outputs.proofs.Writes.{length_digits}
 use Rattle.outputs.proofs.ReadBack.{num-back}

@@ -5,14 +5,13 @@
 --     careful                             the rules of voting, as far as rounds go
 --     round-rises, vote-in-round, high-rises, timeout-high      and of the round and the high QC
 --     written_at                          what the course writes after START an event of it writes
-use Prim.Native.Nat.{ℕ, zero, suc, ◌+◌, ◌≤◌, ◌<◌}
+use Prim.Native.Nat.{ℕ, zero, suc, ◌≤◌, ◌<◌}
 use mathlib.Core.Bool.{true}
-use mathlib.Core.List.{List, [], ◌∷◌, ◌++◌, map, append-nil}
-use mathlib.Core.Logic.{◌⊎◌, inl, inr, ⊎_elim}
-use mathlib.Core.Path.{◌≡◌, refl, sym, ap, ◌∙◌}
+use mathlib.Core.List.{List, [], map, append-nil}
+use mathlib.Core.Logic.{⊎_elim}
+use mathlib.Core.Path.{◌≡◌, refl, ap, ◌∙◌}
 use native.Mathlib.Nat.{le_refl}
 use native.Mathlib.Omega.{arith}
-use lib.ListN.{length}
 use Rattle.certificates.specs.declared.numbers.Hash.{Hash}
 use Rattle.certificates.specs.declared.numbers.Stake.{Stake}
 use Rattle.certificates.specs.declared.messages.QC.{QC}
@@ -23,7 +22,7 @@ use Rattle.synchronizer.specs.declared.table.Slot.{Slot}
 use Rattle.synchronizer.specs.Table.{cleared}
 use Rattle.synchronizer.proofs.Lookups.{Closed, closed-cleared}
 use Rattle.replica.specs.Blocks.{slot_for}
-use Rattle.replica.specs.Step.{World, Result, committee}
+use Rattle.replica.specs.Step.{World, Result}
 use Rattle.runs.specs.Runs.{Event, step_on, Written, is_signed, signed_in, delivered_in, round_of, voted_of, committed_of, high_of}
 use Rattle.runs.proofs.Lists.{written-only, written_none, written_behind, written_either}
 use Rattle.runs.proofs.Lawful.{Delivers}

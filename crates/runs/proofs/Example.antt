@@ -7,7 +7,7 @@
 --     certificate1, wider1, certificate2   certificates of rounds 1 and 2 that meet every premise, two of them for one round
 --     delivers                             each member that obeys delivers block 1
 --     committed-above                      why the invariant does not say that last committed is below the round
-use Prim.Native.Nat.{ℕ, zero, suc, ◌+◌, ◌%◌, ◌<◌}
+use Prim.Native.Nat.{ℕ, zero, suc, ◌%◌, ◌<◌}
 use mathlib.Core.Bool.{Bool, true, false, ◌||◌}
 use mathlib.Core.List.{List, [], ◌∷◌, ◌++◌}
 use mathlib.Core.Logic.{◌⊎◌, inl, inr}

@@ -26,9 +26,9 @@ use Rattle.synchronizer.specs.Walk.{delivers, walk_of}
 use Rattle.synchronizer.specs.Settle.{commit_rec}
 use Rattle.moves.specs.declared.state.Core.{Core}
 use Rattle.moves.specs.State.{State, with_core}
-use Rattle.moves.specs.Outcome.{Step, after}
+use Rattle.moves.specs.Outcome.{Step}
 use Rattle.moves.proofs.MoveLaws.{Keeps}
-use Rattle.handlers.specs.Votes.{extends, voted}
+use Rattle.handlers.specs.Votes.{extends}
 use Rattle.replica.specs.Blocks.{slot_for}
 use Rattle.runs.specs.Runs.{signed_in, delivered_in}
 use Rattle.runs.proofs.Marks.{later}

@@ -11,7 +11,7 @@ use native.Mathlib.Omega.{arith}
 use Rattle.certificates.specs.declared.numbers.Hash.{Hash}
 use Rattle.certificates.specs.Signers.{is_in}
 use Rattle.certificates.proofs.Overlap.{quorums-common}
-use Rattle.runs.specs.Lives.{Life, Party, Careful, Sitting, Quorum, Voted, TimedOut, Certified, Ended, Trusted}
+use Rattle.runs.specs.Lives.{Life, Party, Careful, Sitting, Quorum, Voted, Certified, Trusted}
 
 pub order : (i j : ℕ) → (i < j) ⊎ ((i ≡ j) ⊎ (j < i))
 order zero zero = inr (inl refl)

@@ -1,24 +1,20 @@
 -- Demand 1, "An early refusal changes nothing", by the number that the host sees: whatever happened before, an event whose number is not one of those that
 -- may keep something left the record and the table as they were, and wrote nothing. Assumes nothing.
 --     early-unchanged      any event
-use Prim.Native.Nat.{ℕ, zero, suc, ◌+◌}
-use mathlib.Core.Bool.{Bool, true, false, cond, ◌||◌, true≢false}
-use mathlib.Core.List.{List, [], ◌∷◌}
+use Prim.Native.Nat.{ℕ}
+use mathlib.Core.Bool.{Bool, true, false, cond, true≢false}
+use mathlib.Core.List.{List}
 use mathlib.Core.Logic.{◌⊎◌, inl, inr}
 use mathlib.Core.Path.{◌≡◌, refl, sym, ◌∙◌, ap}
-use borrow.Author.Tests.{eqb-true}
 use lib.Dec.{eqb, ltb}
 use lib.ListN.{length, drop}
-use Rattle.certificates.specs.declared.numbers.Hash.{Hash}
 use Rattle.certificates.specs.declared.config.Setup.{Setup}
 use Rattle.certificates.specs.declared.config.Setup.TheVariants.{Bad, Total}
-use Rattle.certificates.specs.declared.messages.Authored.TheVariants as authored
 use Rattle.certificates.specs.Config.{stake_of, quorum_of}
-use Rattle.certificates.specs.Leader.{leader_of}
 use Rattle.certificates.specs.Signers.{member}
 use Rattle.certificates.specs.Messages.{embedded_check, tc_check, author_check}
 use Rattle.certificates.specs.Start.{setup_at}
-use Rattle.certificates.specs.Error.{wait_payload, invalid_payload, round_too_high, qc_requires_quorum, tc_requires_quorum, number_of, author_number, no_room, ancestor_absent, round_not_below, unknown_authority, authority_reuse, tallies_full}
+use Rattle.certificates.specs.Error.{wait_payload, invalid_payload, round_too_high, qc_requires_quorum, tc_requires_quorum, number_of, author_number, no_room, ancestor_absent, round_not_below}
 use Rattle.trace.specs.declared.events.Kind.{Kind}
 use Rattle.trace.specs.declared.events.Block.{Block}
 use Rattle.trace.specs.declared.events.Timeout.{Timeout}
@@ -28,20 +24,16 @@ use Rattle.trace.specs.Limits.{limit_of}
 use Rattle.trace.specs.Fields.{vote_of, timeout_of, block_of}
 use Rattle.certificates.specs.Numbers.{round_max}
 use Rattle.trace.specs.Layout.{timeout_qc, tc_body, qc_part, tc_part, tc_round, payload_of}
-use Rattle.aggregator.specs.declared.tallies.Added.{Added}
-use Rattle.aggregator.specs.declared.tallies.Added.TheVariants.{NoRoom, Used, More, Full}
-use Rattle.aggregator.specs.Tallies.{vote_added, votes_after, timeout_added, timeouts_after}
 use Rattle.synchronizer.specs.declared.table.Slot.{Slot}
 use Rattle.synchronizer.specs.declared.settle.Work.{Work}
 use Rattle.synchronizer.specs.Settle.{Settlement}
 use Rattle.synchronizer.specs.Kept.{waiting, no_place, no_b0, stopped_by, Keeps}
-use Rattle.moves.specs.State.{State, with_core, with_voted}
-use Rattle.moves.specs.Outcome.{Outcome, quiet, done, after, refused}
-use Rattle.moves.specs.Tallied.{after_vote, vote_tallied, after_timeout, timeout_tallied}
-use Rattle.moves.proofs.TallyLaws.{vote-tallied-is, timeout-tallied-is}
+use Rattle.moves.specs.State.{State}
+use Rattle.moves.specs.Outcome.{Outcome, done, after, refused}
+use Rattle.moves.specs.Tallied.{vote_tallied, timeout_tallied}
 use Rattle.handlers.proofs.VoteTheorems.{Votes, tallied-votes, author-votes, voting-votes}
 use Rattle.handlers.specs.Sound.{first, signers_of}
-use Rattle.handlers.specs.Votes.{vote_check, handled_vote, may_vote, own_vote, voted, voting}
+use Rattle.handlers.specs.Votes.{vote_check, handled_vote, voting}
 use Rattle.handlers.specs.Timeouts.{timeout_check, timeout_taken, timeout_with, handled_timeout, tc_taken, stale_if, tc_with, handled_tc, ticked, own_timeout, handled_tick}
 use Rattle.handlers.specs.Proposals.{qc_found, proposal_check, taken, by_payload, payload_number, proposal_with, proposal_of}
 use Rattle.replica.specs.Blocks.{work_for, settled_for, settled_step, after_settled, processed, processed_table, going_on, going_on_table}

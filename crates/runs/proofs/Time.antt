@@ -7,7 +7,7 @@
 --     gives-past                    a moment is the same in a course that goes on
 --     outs-at, outs-find            what a moment writes is written, and what is written a moment writes
 --     gathered-all                  all that is delivered, moment by moment
-use Prim.Native.Nat.{ℕ, zero, suc, ◌≤◌, ◌<◌}
+use Prim.Native.Nat.{ℕ, zero, suc, ◌<◌}
 use mathlib.Core.Bool.{Bool, false}
 use mathlib.Core.List.{List, [], ◌∷◌, ◌++◌, append_assoc, append-nil}
 use mathlib.Core.Logic.{◌⊎◌, inl, inr, ⊎_elim}

@@ -26,7 +26,6 @@ use Rattle.trace.specs.Layout.{timeout_qc, tc_body, qc_part, tc_part}
 use Rattle.outputs.specs.Records.{vote, timeout, timer_reset}
 use Rattle.aggregator.specs.Tallies.{votes_length, timeouts_length}
 use Rattle.synchronizer.specs.declared.table.Slot.{Slot}
-use Rattle.synchronizer.specs.Walk.{delivers}
 use Rattle.moves.specs.declared.state.Core.{Core}
 use Rattle.moves.specs.State.{State, with_core, with_voted}
 use Rattle.moves.specs.Outcome.{Step, Outcome, quiet, done, after, refused}

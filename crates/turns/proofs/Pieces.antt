@@ -23,7 +23,7 @@ use Rattle.trace.proofs.Fronts.{at-end, too_long_lem}
 use Rattle.trace.proofs.FrontLaws.{Whole, front-append, record-append, rest-append}
 use Rattle.outputs.specs.Records.{Rec, answer, answer_size, enc_all}
 use Rattle.outputs.proofs.Wrote.{all_none}
-use Rattle.replica.specs.Step.{World, Result, stepped}
+use Rattle.replica.specs.Step.{World, stepped}
 use Rattle.turns.specs.Turn.{answered, more, too_long, is_too_long, answers_in, Turning, waiting, turned}
 use Rattle.turns.specs.Ledger.{event_at, ledger_of}
 use Rattle.turns.specs.Pieces.{Played, played_in, played_of, fed_of}

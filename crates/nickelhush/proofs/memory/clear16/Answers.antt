@@ -1,11 +1,10 @@
 -- `nickelhush::memory::clear16` meets its contract. The loop: the first i numbers are 0, the others are as they were. The measure is what is left.
 -- Assumes nothing.
-use Prim.Native.Nat.{◌-◌, ◌≤◌}
 use mathlib.Core.Path.{◌≡◌, refl}
 use borrow.Author.Rules.{rules}
 use native.Mathlib.Omega.{arith}
-use lib.ListN.{length, drop, replicate, length-set}
-use mathlib.Core.List.{◌++◌, append-nil}
+use lib.ListN.{length, length-set}
+use mathlib.Core.List.{append-nil}
 use lib.Seq.{drop-length}
 use borrow.Author.Fill.{fill_more}
 use Rattle.nickelhush.proofs.memory.clear16.Goals as goal

@@ -4,7 +4,6 @@ use native.Mathlib.Omega.{arith}
 use lib.ListN.{length-set}
 use Rattle.aggregator.proofs.Rows.{sets-whole}
 use Rattle.nickelhush.specs.Memory.{core_numbers}
-use borrow.Author.Rules.{rules}
 use Rattle.nickelhush.proofs.memory.core_out.Goals as goal
 
 pub bounds-core-4 : goal.bounds-core-4

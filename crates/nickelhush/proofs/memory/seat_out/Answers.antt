@@ -2,7 +2,6 @@
 -- Assumes nothing.
 use mathlib.Core.List.{[], ◌∷◌}
 use Rattle.aggregator.proofs.Rows.{sets-whole}
-use borrow.Author.Rules.{rules}
 use Rattle.nickelhush.proofs.memory.seat_out.Goals as goal
 
 pub returns : goal.returns

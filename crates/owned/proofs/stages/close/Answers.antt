@@ -1,6 +1,5 @@
 -- `owned::stages::close` meets its contract: what `finish` ensures, with the fields put back. Assumes nothing.
 use mathlib.Core.Path.{refl}
-use borrow.Author.Rules.{rules}
 use Rattle.owned.proofs.stages.close.Goals as goal
 
 pub returns : goal.returns
