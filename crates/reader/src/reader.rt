@@ -1,5 +1,4 @@
-// A reader holds the trace bytes and its place in them. The borrow checker covers no function over
-// such a struct: each is thin, and is proved by hand.
+// A reader holds the trace bytes and its place in them. Each function over it is thin.
 ghost use Rattle.std.specs.Prelude.{◌≡◌};
 ghost use Rattle.reader.specs.Place.{front_at, next_at, left_at, front_in};
 
