@@ -1,5 +1,7 @@
-// Bytes moved, copied, compared and summed.
+// Bytes moved, copied, compared and summed; and read, in `streams`.
 #![tactic(auto)]
+
+pub mod streams;
 
 ghost use Rattle.std.specs.Prelude.{◌+◌, ◌-◌, ◌≤◌, ◌≡◌, length, take, drop};
 ghost use Rattle.std.proofs.Math.Seq.{paste};
