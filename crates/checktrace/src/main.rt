@@ -8,9 +8,10 @@
 ghost use Rattle.std.specs.Prelude.{◌+◌, ◌≤◌, length};
 
 use buffers::shift;
+use buffers::streams::{large_buffer, read_some};
 use certificates::error::BAD_RECORD;
-use libc::{STDIN_FILENO, STDOUT_FILENO};
 use outputs::records::{ANSWER_SIZE, put_answer};
+use std::io::{Read, Write};
 
 // The bytes from start up to have are trace that was read and not taken.
 #[derive(Clone, Copy)]
@@ -30,39 +31,44 @@ fn end() -> State {
 
 // One read into buf from `have` on, and how many bytes it brought: 0 at the end of the input, or
 // where a read fails.
-fn fill(buf: &mut [u8], have: usize) -> usize
+fn fill<R: Read>(input: &mut R, buf: &mut [u8], have: usize) -> usize
     requires { have ≤ length buf.old }
     ensures { have + result ≤ length buf.old }
 {
-    let free = &mut buf[have..];
-    let got = libc::read(STDIN_FILENO, free);
-    io::count(got, free)
+    read_some(input, &mut buf[have..])
 }
 
 // The answer to a record that is cut or too long, after which the run ends.
-fn refuse(out: &mut [u8]) -> State {
+fn refuse<W: Write>(output: &mut W, out: &mut [u8]) -> State {
     if out.len() < ANSWER_SIZE {
         return end();
     }
     let n = put_answer(out, 0, BAD_RECORD);
-    io::write_all(STDOUT_FILENO, &out[0..n]);
+    let _ = output.write_all(&out[0..n]);
     end()
 }
 
 // No whole record is left: more is read, after what is left of the trace was moved to the front.
-fn refill(buf: &mut [u8], out: &mut [u8], start: usize, have: usize) -> State
+fn refill<R: Read, W: Write>(
+    input: &mut R,
+    output: &mut W,
+    buf: &mut [u8],
+    out: &mut [u8],
+    start: usize,
+    have: usize,
+) -> State
     requires { (start ≤ have) × (have ≤ length buf.old) }
 {
     let kept = shift(buf, start, have);
     if forms::is_too_long(&buf[0..kept]) {
-        return refuse(out);
+        return refuse(output, out);
     }
-    let n = fill(buf, kept);
+    let n = fill(input, buf, kept);
     if n == 0 {
         if kept == 0 {
             return end();
         }
-        return refuse(out);
+        return refuse(output, out);
     }
     State {
         start: 0,
@@ -73,7 +79,13 @@ fn refill(buf: &mut [u8], out: &mut [u8], start: usize, have: usize) -> State
 
 // Answers the whole records in the buffer, or reads more where there is none. The bounds that are
 // tested here hold in every run; the tests take the place of an invariant on the state.
-fn step(buf: &mut [u8], out: &mut [u8], s: State) -> State {
+fn step<R: Read, W: Write>(
+    input: &mut R,
+    output: &mut W,
+    buf: &mut [u8],
+    out: &mut [u8],
+    s: State,
+) -> State {
     let start = s.start;
     let have = s.have;
     if buf.len() < have {
@@ -86,7 +98,7 @@ fn step(buf: &mut [u8], out: &mut [u8], s: State) -> State {
     let written = ran.written;
     let used = ran.used;
     if used == 0 {
-        return refill(buf, out, start, have);
+        return refill(input, output, buf, out, start, have);
     }
     if out.len() < written {
         return end();
@@ -94,7 +106,7 @@ fn step(buf: &mut [u8], out: &mut [u8], s: State) -> State {
     if have - start < used {
         return end();
     }
-    let ok = io::write_all(STDOUT_FILENO, &out[0..written]);
+    let ok = output.write_all(&out[0..written]).is_ok();
     State {
         start: start + used,
         have,
@@ -105,7 +117,7 @@ fn step(buf: &mut [u8], out: &mut [u8], s: State) -> State {
 // A proved loop has to end, and nothing says that the input does, so the turns are counted down.
 // Each turn takes a record of two bytes or more, reads a byte or more, or ends the run: a trace of
 // n bytes takes at most 1.5 n + 1 turns, and these are enough for 10^19 bytes.
-fn run_all(buf: &mut [u8], out: &mut [u8]) {
+fn run_all<R: Read, W: Write>(input: &mut R, output: &mut W, buf: &mut [u8], out: &mut [u8]) {
     let mut s = State {
         start: 0,
         have: 0,
@@ -114,14 +126,14 @@ fn run_all(buf: &mut [u8], out: &mut [u8]) {
     let mut done = false;
     let mut turns = u64::MAX;
     while turns > 0 && !done {
-        s = step(buf, out, s);
+        s = step(input, output, buf, out, s);
         done = s.done;
         turns -= 1;
     }
 }
 
-fn main() {
-    let mut buf = io::large_buffer();
-    let mut out = io::large_buffer();
-    run_all(&mut buf, &mut out);
+fn main(rt: HostRuntime) {
+    let mut buf = large_buffer();
+    let mut out = large_buffer();
+    run_all(&mut rt.stdin(), &mut rt.stdout(), &mut buf, &mut out);
 }
