@@ -2,10 +2,10 @@
 // with a 256-slot table." It writes every output, and after each event its ANSWER.
 #![tactic(auto)]
 
-use libc::{STDIN_FILENO, STDOUT_FILENO};
 use serving::serve::serve_new;
 use serving::state::WRITE;
+use std::io::empty;
 
-fn main() {
-    serve_new(STDIN_FILENO, STDOUT_FILENO, WRITE, 0, 0);
+fn main(rt: HostRuntime) {
+    serve_new(&mut rt.stdin(), &mut empty(), &mut rt.stdout(), WRITE, 0, 0);
 }

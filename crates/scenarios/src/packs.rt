@@ -1,9 +1,11 @@
 // A pack: many traces in one file, and what is expected for each in another.
-use crate::files::{open, say, sum_file};
+use crate::files::{open, say, say_number, say_sum, sum_file};
+use buffers::streams::read_full;
 use certificates::num::u16_at;
-use libc::STDOUT_FILENO;
 use serving::serve::serve_new;
 use serving::state::{DIFFERS, ENDED, PART};
+use std::io::{Read, sink};
+use std::rt::Files;
 
 // What the front of a pack has: the length of a part, nothing, or bytes that are no length.
 #[derive(Clone, Copy)]
@@ -13,9 +15,9 @@ pub(crate) struct Front {
     pub cut: bool,
 }
 
-fn front_of(from: i32) -> Front {
+fn front_of<F: Read>(from: &mut F) -> Front {
     let mut four = [0u8; 4];
-    let got = io::read_full(from, &mut four);
+    let got = read_full(from, &mut four);
     let low = u16_at(&four, 0) as u64;
     let high = u16_at(&four, 2) as u64;
     Front {
@@ -65,7 +67,7 @@ fn one_more(p: Packed) -> Packed {
 }
 
 // The next trace of a pack.
-fn play_next(traces: i32, answers: i32, p: Packed) -> Packed {
+fn play_next<F: Read>(traces: &mut F, answers: &mut F, p: Packed) -> Packed {
     let t = front_of(traces);
     let a = front_of(answers);
     if t.none && a.none {
@@ -74,7 +76,7 @@ fn play_next(traces: i32, answers: i32, p: Packed) -> Packed {
     if t.cut || a.cut {
         return stopped(p, NOT_ALIKE, 0);
     }
-    let r = serve_new(traces, answers, PART, t.len, a.len);
+    let r = serve_new(traces, answers, &mut sink(), PART, t.len, a.len);
     if r.why == ENDED {
         return one_more(p);
     }
@@ -85,7 +87,7 @@ fn play_next(traces: i32, answers: i32, p: Packed) -> Packed {
 }
 
 // The turns are counted down, since nothing says that a file ends.
-fn play_parts(traces: i32, answers: i32) -> Packed {
+fn play_parts<F: Read>(traces: &mut F, answers: &mut F) -> Packed {
     let mut p = Packed {
         equal: 0,
         stands: GOES_ON,
@@ -101,49 +103,64 @@ fn play_parts(traces: i32, answers: i32) -> Packed {
     p
 }
 
-fn tell(p: Packed) {
+fn tell(rt: &impl Print, p: Packed) {
     if p.stands == ALL_EQUAL {
-        io::print_decimal(STDOUT_FILENO, p.equal);
-        say(b" traces equal");
+        say_number(rt, p.equal);
+        say(rt, b" traces equal");
     } else if p.stands == ONE_DIFFERS {
-        say(b"after ");
-        io::print_decimal(STDOUT_FILENO, p.equal);
-        say(b" equal traces the next differs at byte ");
-        io::print_decimal(STDOUT_FILENO, p.place);
+        say(rt, b"after ");
+        say_number(rt, p.equal);
+        say(rt, b" equal traces the next differs at byte ");
+        say_number(rt, p.place);
     } else if p.stands == NOT_ALIKE {
-        say(b"after ");
-        io::print_decimal(STDOUT_FILENO, p.equal);
-        say(b" equal traces its two files do not go on alike");
+        say(rt, b"after ");
+        say_number(rt, p.equal);
+        say(rt, b" equal traces its two files do not go on alike");
     } else {
-        say(b"after ");
-        io::print_decimal(STDOUT_FILENO, p.equal);
-        say(b" equal traces the next was not played to its end");
+        say(rt, b"after ");
+        say_number(rt, p.equal);
+        say(rt, b" equal traces the next was not played to its end");
     }
 }
 
 // Whether every trace of a pack is answered with what is expected.
-pub(crate) fn play_pack(name: &[u8]) -> bool {
-    let traces = open(name, b".traces");
-    let answers = open(name, b".answers");
-    say(name);
-    if traces < 0 {
-        say(b".traces: missing\n");
-        return false;
-    }
-    if answers < 0 {
-        libc::close(traces);
-        say(b".answers: missing\n");
-        return false;
-    }
+fn play_open<R: Files + Print>(
+    rt: &R,
+    name: &[u8],
+    traces: &mut R::File,
+    answers: &mut R::File,
+) -> bool {
     let p = play_parts(traces, answers);
-    libc::close(traces);
-    libc::close(answers);
-    say(b": ");
-    tell(p);
-    let a = sum_file(name, b".traces", 0);
-    let b = sum_file(name, b".answers", a);
-    say(b", sum ");
-    io::print_hex(STDOUT_FILENO, b as u64, 8);
-    say(b"\n");
+    say(rt, b": ");
+    tell(rt, p);
+    let a = sum_file(rt, name, b".traces", 0);
+    let b = sum_file(rt, name, b".answers", a);
+    say(rt, b", sum ");
+    say_sum(rt, b);
+    say(rt, b"\n");
     p.stands == ALL_EQUAL
+}
+
+// The same of the pack's name: its two files are opened here.
+pub(crate) fn play_pack<R: Files + Print>(rt: &R, name: &[u8]) -> bool {
+    let traces = open(rt, name, b".traces");
+    let answers = open(rt, name, b".answers");
+    say(rt, name);
+    match traces {
+        None => {
+            say(rt, b".traces: missing\n");
+            false
+        }
+        Some(traces) => match answers {
+            None => {
+                say(rt, b".answers: missing\n");
+                false
+            }
+            Some(answers) => {
+                let mut traces = traces;
+                let mut answers = answers;
+                play_open(rt, name, &mut traces, &mut answers)
+            }
+        },
+    }
 }

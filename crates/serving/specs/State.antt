@@ -4,7 +4,7 @@
 --     slots                               the slots of the table
 --     turns_max                            the turns that a run may take
 --     idle                                a replica that was not started, and nothing read
---     fresh_of i o m left due              a run at its beginning
+--     fresh_of m left due                  a run at its beginning
 --     state_of s run left due held place turns why    s with the parts that change
 --     ended_by s w                         the run is over; the larger number stands
 --     passed_by s t                        a turn is over, and left t
@@ -16,7 +16,7 @@
 --     held_by s n, further_by s n           n bytes wait in the pack; the output is n bytes further on
 --     judged_by s got same n               of n bytes of output `same` are those expected, and `got` were read to see that
 --     told_of s                            what a program is told
-use Rattle.std.specs.Prelude.{ℕ, ◌+◌, ◌-◌, ◌^◌, cond, eqb, leb, ltb, ℤ}
+use Rattle.std.specs.Prelude.{ℕ, ◌+◌, ◌-◌, ◌^◌, cond, eqb, leb, ltb}
 use Rattle.certificates.specs.Numbers.{zero_hash}
 use Rattle.turns.specs.declared.turn.Run.{Run}
 use Rattle.turns.specs.declared.turn.Turned.{Turned}
@@ -73,13 +73,13 @@ idle =
       have = 0;
     }
 
-abbrev pub fresh_of : ℤ → ℤ → ℕ → ℕ → ℕ → Serving
-fresh_of i o m l d =
-    record { run = idle; input = i; output = o; mode = m; left = l; due = d; held = 0; place = 0; turns = turns_max; why = going }
+abbrev pub fresh_of : ℕ → ℕ → ℕ → Serving
+fresh_of m l d =
+    record { run = idle; mode = m; left = l; due = d; held = 0; place = 0; turns = turns_max; why = going }
 
 abbrev pub state_of : Serving → Run → ℕ → ℕ → ℕ → ℕ → ℕ → ℕ → Serving
 state_of s g l d h p n w =
-    record { run = g; input = s.input; output = s.output; mode = s.mode; left = l; due = d; held = h; place = p; turns = n; why = w }
+    record { run = g; mode = s.mode; left = l; due = d; held = h; place = p; turns = n; why = w }
 
 -- the replica as it is, and the unread part of the buffer
 abbrev pub run_of : Run → ℕ → ℕ → Run

@@ -4,20 +4,20 @@ ghost use Rattle.serving.specs.Bytes.{Refills};
 
 use crate::state::{ENDED, Got, NO_ROOM, Serving, allowed, brought, ended, filled};
 use buffers::shift;
+use std::io::Read;
 
 // One read.
-fn read_once(input: i32, room: &mut [u8]) -> Got
+fn read_once<R: Read>(input: &mut R, room: &mut [u8]) -> Got
     ensures { result.n ≤ length room.old }
 {
-    let got = libc::read(input, room);
-    Got {
-        failed: got < 0,
-        n: io::count(got, room),
+    match input.read(room) {
+        Ok(n) => Got { failed: false, n },
+        Err(_) => Got { failed: true, n: 0 },
     }
 }
 
 // One read into buf from `from` up to `to`. What stands before is kept.
-fn fill(input: i32, buf: &mut [u8], from: usize, to: usize) -> Got
+fn fill<R: Read>(input: &mut R, buf: &mut [u8], from: usize, to: usize) -> Got
     requires { (from ≤ to) × (to ≤ length buf.old) }
     ensures { (from + result.n ≤ to) × (take from buf.new ≡ take from buf.old) }
 {
@@ -42,7 +42,7 @@ fn to_front(buf: &mut [u8], s: Serving) -> Serving
 }
 
 // One read puts more behind what is there: of a PART no more than is left of it.
-fn read_more(buf: &mut [u8], s: Serving) -> Serving
+fn read_more<R: Read>(input: &mut R, buf: &mut [u8], s: Serving) -> Serving
     ensures { Refills s buf.old result buf.new }
 {
     let run = s.run;
@@ -57,18 +57,18 @@ fn read_more(buf: &mut [u8], s: Serving) -> Serving
     if n == 0 {
         return ended(s, ENDED);
     }
-    let got = fill(s.input, buf, have, have + n);
+    let got = fill(input, buf, have, have + n);
     brought(s, got)
 }
 
 // More is read behind what is unread. ENDED where the input ends, NOT_READ where a read fails or a
 // PART is cut.
-pub(crate) fn refill(buf: &mut [u8], s: Serving) -> Serving
+pub(crate) fn refill<R: Read>(input: &mut R, buf: &mut [u8], s: Serving) -> Serving
     ensures { Refills s buf.old result buf.new }
 {
     let u = to_front(buf, s);
     if ENDED < u.why {
         return u;
     }
-    read_more(buf, u)
+    read_more(input, buf, u)
 }

@@ -7,11 +7,13 @@ use crate::state::{
     DIFFERS, ENDED, NO_ROOM, NOT_WRITTEN, PART, Serving, WRITE, allowed, ended, further, holding,
     judged,
 };
+use buffers::streams::read_full;
 use buffers::{alike, copy};
+use std::io::{Read, Write};
 
 // What waits in the pack is written out. After a write that failed nothing is written any more, so
 // that a record that was cut off stays the last.
-pub(crate) fn flush(pack: &[u8], s: Serving) -> Serving
+pub(crate) fn flush<W: Write>(output: &mut W, pack: &[u8], s: Serving) -> Serving
     ensures { Flushes s result }
 {
     let held = s.held;
@@ -22,7 +24,7 @@ pub(crate) fn flush(pack: &[u8], s: Serving) -> Serving
         return ended(s, NO_ROOM);
     }
     let u = holding(s, 0);
-    if io::write_all(s.output, &pack[0..held]) {
+    if output.write_all(&pack[0..held]).is_ok() {
         return u;
     }
     ended(u, NOT_WRITTEN)
@@ -30,7 +32,7 @@ pub(crate) fn flush(pack: &[u8], s: Serving) -> Serving
 
 // The first n bytes of out wait in the pack, behind those that do already. Where there is no room
 // behind them, those are written out first.
-fn hold(out: &[u8], pack: &mut [u8], n: usize, s: Serving) -> Serving
+fn hold<W: Write>(output: &mut W, out: &[u8], pack: &mut [u8], n: usize, s: Serving) -> Serving
     requires { (n ≤ length out.now) × (s.mode ≡ write) }
     ensures { Delivers s out.now pack.old n result pack.new }
 {
@@ -42,7 +44,7 @@ fn hold(out: &[u8], pack: &mut [u8], n: usize, s: Serving) -> Serving
         copy(out, pack, held, n);
         return further(holding(s, held + n), n);
     }
-    let u = flush(pack, s);
+    let u = flush(output, pack, s);
     if ENDED < u.why {
         return u;
     }
@@ -54,15 +56,15 @@ fn hold(out: &[u8], pack: &mut [u8], n: usize, s: Serving) -> Serving
 }
 
 // Reads the next m bytes that are expected to the front of pack, and answers how many there are.
-fn expect(from: i32, pack: &mut [u8], m: usize) -> usize
+fn expect<E: Read>(expected: &mut E, pack: &mut [u8], m: usize) -> usize
     requires { m ≤ length pack.old }
     ensures { result ≤ m }
 {
-    io::read_full(from, &mut pack[0..m])
+    read_full(expected, &mut pack[0..m])
 }
 
 // The first n bytes of out are compared with the next n that are expected.
-fn compare(out: &[u8], pack: &mut [u8], n: usize, s: Serving) -> Serving
+fn compare<E: Read>(expected: &mut E, out: &[u8], pack: &mut [u8], n: usize, s: Serving) -> Serving
     requires { (n ≤ length out.now) × (s.mode ≡ write → ⊥) }
     ensures { Delivers s out.now pack.old n result pack.new }
 {
@@ -70,28 +72,40 @@ fn compare(out: &[u8], pack: &mut [u8], n: usize, s: Serving) -> Serving
     if pack.len() < m {
         return ended(s, NO_ROOM);
     }
-    let got = expect(s.output, pack, m);
+    let got = expect(expected, pack, m);
     let same = alike(out, pack, got);
     judged(s, got, same, n)
 }
 
 // The first n bytes of out are a turn's output.
-pub(crate) fn deliver(out: &[u8], pack: &mut [u8], n: usize, s: Serving) -> Serving
+pub(crate) fn deliver<E: Read, W: Write>(
+    expected: &mut E,
+    output: &mut W,
+    out: &[u8],
+    pack: &mut [u8],
+    n: usize,
+    s: Serving,
+) -> Serving
     ensures { Delivers s out.now pack.old n result pack.new }
 {
     if out.len() < n {
         return ended(s, NO_ROOM);
     }
     if s.mode == WRITE {
-        return hold(out, pack, n, s);
+        return hold(output, out, pack, n, s);
     }
-    compare(out, pack, n, s)
+    compare(expected, out, pack, n, s)
 }
 
 // At the end what waits is written out, and nothing more may be expected.
-pub(crate) fn close(pack: &[u8], s: Serving) -> Serving {
+pub(crate) fn close<E: Read, W: Write>(
+    expected: &mut E,
+    output: &mut W,
+    pack: &[u8],
+    s: Serving,
+) -> Serving {
     if s.mode == WRITE {
-        return flush(pack, s);
+        return flush(output, pack, s);
     }
     if s.mode == PART {
         if s.due == 0 {
@@ -100,7 +114,7 @@ pub(crate) fn close(pack: &[u8], s: Serving) -> Serving {
         return ended(s, DIFFERS);
     }
     let mut one = [0u8; 1];
-    let got = io::read_full(s.output, &mut one);
+    let got = read_full(expected, &mut one);
     if got == 0 {
         return s;
     }

@@ -10,10 +10,12 @@ use crate::input::refill;
 use crate::output::{close, deliver, flush};
 use crate::state::{ENDED, NO_ROOM, Served, Serving, ended, fresh, goes_on, passed, run_of, told};
 use aggregator::tallies::{TIMEOUT_TALLIES, TIMEOUT_WIDTH, VOTE_TALLIES, VOTE_WIDTH};
+use buffers::streams::large_buffer;
 use certificates::config::MEMBERS_MAX;
 use certificates::error::BAD_RECORD;
 use certificates::numbers::{Hash, Round};
 use outputs::records::{ANSWER_SIZE, put_answer};
+use std::io::{Read, Write};
 use synchronizer::table::Slot;
 use turns::turn::{ANSWERED, MORE, Turned, turn};
 
@@ -23,7 +25,13 @@ pub const SLOTS: usize = 256;
 pub const OUT_ROOM: usize = 13318;
 
 // The input ended. A record that its end cuts gets ANSWER 16.
-fn cut(out: &mut [u8], pack: &mut [u8], s: Serving) -> Serving
+fn cut<E: Read, W: Write>(
+    expected: &mut E,
+    output: &mut W,
+    out: &mut [u8],
+    pack: &mut [u8],
+    s: Serving,
+) -> Serving
     ensures { (result.turns ≤ s.turns) × (result.run ≡ s.run) }
 {
     if s.run.have <= s.run.at {
@@ -33,26 +41,37 @@ fn cut(out: &mut [u8], pack: &mut [u8], s: Serving) -> Serving
         return ended(s, NO_ROOM);
     }
     let n = put_answer(out, 0, BAD_RECORD);
-    deliver(out, pack, n, s)
+    deliver(expected, output, out, pack, n, s)
 }
 
 // There is no whole record in the buffer. What waits is written out before more is waited for.
-fn more(out: &mut [u8], buf: &mut [u8], pack: &mut [u8], s: Serving) -> Serving
+fn more<R: Read, E: Read, W: Write>(
+    input: &mut R,
+    expected: &mut E,
+    output: &mut W,
+    out: &mut [u8],
+    buf: &mut [u8],
+    pack: &mut [u8],
+    s: Serving,
+) -> Serving
     ensures { Passes s buf.old result buf.new }
 {
-    let u = flush(pack, s);
+    let u = flush(output, pack, s);
     if ENDED < u.why {
         return u;
     }
-    let v = refill(buf, u);
+    let v = refill(input, buf, u);
     if v.why == ENDED {
-        return cut(out, pack, v);
+        return cut(expected, output, out, pack, v);
     }
     v
 }
 
 // What a turn left is delivered, or more is read.
-pub(crate) fn moved(
+pub(crate) fn moved<R: Read, E: Read, W: Write>(
+    input: &mut R,
+    expected: &mut E,
+    output: &mut W,
     out: &mut [u8],
     buf: &mut [u8],
     pack: &mut [u8],
@@ -63,9 +82,9 @@ pub(crate) fn moved(
 {
     let u = passed(s, t);
     if t.met == MORE {
-        return more(out, buf, pack, u);
+        return more(input, expected, output, out, buf, pack, u);
     }
-    let v = deliver(out, pack, t.written, u);
+    let v = deliver(expected, output, out, pack, t.written, u);
     if t.met == ANSWERED {
         return v;
     }
@@ -75,7 +94,10 @@ pub(crate) fn moved(
 // Turn after turn, to the end of the run. Nothing says that the input ends, so the turns are counted
 // down. Each takes a record of two bytes or more, reads a byte or more, or ends the run: a trace of
 // n bytes takes at most 1.5 n + 1 turns, and 2^64 - 1 are enough for 10^19 bytes.
-pub fn serve(
+pub fn serve<R: Read, E: Read, W: Write>(
+    input: &mut R,
+    expected: &mut E,
+    output: &mut W,
     stakes: &mut [u32],
     votes: &mut [u64],
     timeouts: &mut [u64],
@@ -91,7 +113,7 @@ pub fn serve(
     while goes_on(u) {
         let run = run_of(u);
         let t = turn(stakes, votes, timeouts, table, out, buf, run);
-        let v = moved(out, buf, pack, u, t);
+        let v = moved(input, expected, output, out, buf, pack, u, t);
         u = v;
     }
     u
@@ -125,7 +147,10 @@ fn out_buffer() -> [u8; OUT_ROOM]
 }
 
 // The same with an empty table, which is made and lent here.
-pub(crate) fn serve_in(
+pub(crate) fn serve_in<R: Read, E: Read, W: Write>(
+    input: &mut R,
+    expected: &mut E,
+    output: &mut W,
     stakes: &mut [u32],
     votes: &mut [u64],
     timeouts: &mut [u64],
@@ -137,21 +162,33 @@ pub(crate) fn serve_in(
     ensures { result.turns ≡ 0 }
 {
     let mut table = blank_table();
-    serve(stakes, votes, timeouts, &mut table, out, buf, pack, s)
+    serve(
+        input, expected, output, stakes, votes, timeouts, &mut table, out, buf, pack, s,
+    )
 }
 
 // A replica that was not started plays the trace that is read from `input`, to its end; what it
-// writes goes to `output`, or is compared with what is read there. Of a PART, `left` and `due` are
-// the bytes that the trace and what is expected have.
-pub fn serve_new(input: i32, output: i32, mode: u8, left: u64, due: u64) -> Served {
+// writes goes to `output`, or is compared with what is read from `expected`. Of a PART, `left` and
+// `due` are the bytes that the trace and what is expected have.
+pub fn serve_new<R: Read, E: Read, W: Write>(
+    input: &mut R,
+    expected: &mut E,
+    output: &mut W,
+    mode: u8,
+    left: u64,
+    due: u64,
+) -> Served {
     let mut stakes = [0u32; MEMBERS_MAX];
     let mut votes = [0u64; VOTE_TALLIES * VOTE_WIDTH];
     let mut timeouts = [0u64; TIMEOUT_TALLIES * TIMEOUT_WIDTH];
     let mut out = out_buffer();
-    let mut buf = io::large_buffer();
-    let mut pack = io::large_buffer();
-    let s = fresh(input, output, mode, left, due);
+    let mut buf = large_buffer();
+    let mut pack = large_buffer();
+    let s = fresh(mode, left, due);
     let u = serve_in(
+        input,
+        expected,
+        output,
         &mut stakes,
         &mut votes,
         &mut timeouts,
@@ -160,5 +197,5 @@ pub fn serve_new(input: i32, output: i32, mode: u8, left: u64, due: u64) -> Serv
         &mut pack,
         s,
     );
-    told(close(&pack, u))
+    told(close(expected, output, &pack, u))
 }

@@ -1,4 +1,4 @@
-// A run by value: what the replica keeps by value, where bytes come from and go to, and how far it is.
+// A run by value: what the replica keeps by value, and how far it is.
 ghost use Rattle.std.specs.Prelude.{◌≡◌, ◌+◌, ◌≤◌, ◌<◌, ◌^◌, ltb};
 ghost use Rattle.serving.specs.State.{idle as idle_run, fresh_of, ended_by, passed_by, filled_by, allowed as allowed_of, rest_of, gained_by, brought_by, met_by, held_by, further_by, judged_by, told_of};
 
@@ -32,9 +32,6 @@ pub const NO_ROOM: u8 = 5;
 #[derive(Clone, Copy)]
 pub struct Serving {
     pub run: Run,
-    // The descriptors.
-    pub input: i32,
-    pub output: i32,
     pub mode: u8,
     // Of a PART: the bytes of the input, and of what is expected, that were not read yet.
     pub left: u64,
@@ -95,14 +92,12 @@ fn idle() -> Run
 }
 
 // A run at its beginning.
-pub(crate) fn fresh(input: i32, output: i32, mode: u8, left: u64, due: u64) -> Serving
-    ensures { result ≡ fresh_of input output mode left due }
+pub(crate) fn fresh(mode: u8, left: u64, due: u64) -> Serving
+    ensures { result ≡ fresh_of mode left due }
 {
     let run = idle();
     Serving {
         run,
-        input,
-        output,
         mode,
         left,
         due,
