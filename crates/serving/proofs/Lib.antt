@@ -1,5 +1,3 @@
--- Laws of the values and of the bytes; the struct that the walks touch, and what the callees give.
+-- Laws of the values and of the bytes.
 mod StateLaws
 mod ByteLaws
-mod Row
-mod Uses

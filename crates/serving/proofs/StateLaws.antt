@@ -1,16 +1,13 @@
 -- Laws of a run by value: one for each way out of the functions of `state`. Assumes nothing.
 use mathlib.Core.Path.{◌≡◌, refl, sym, ◌∙◌}
-use Prim.Native.Nat.{ℕ, ◌+◌, ◌-◌, ◌≤◌, ◌<◌}
+use Prim.Native.Nat.{ℕ, ◌-◌, ◌≤◌, ◌<◌}
 use mathlib.Core.Bool.{Bool, true, false, cond}
 use native.Mathlib.Omega.{arith}
 use lib.Dec.{eqb, ltb}
-use lib.IntN.{ℤ}
-use borrow.Author.Tests.{ltb-true, ltb-false, eq-eqb, ne_eqb, le-leb, lt-leb, lt-ltb, le-ltb}
-use Rattle.turns.specs.declared.turn.Run.{Run}
-use Rattle.turns.specs.declared.turn.Turned.{Turned}
+use borrow.Author.Tests.{ltb-true, ltb-false, eq-eqb, ne_eqb, lt-ltb, le-ltb}
 use Rattle.serving.specs.declared.state.Serving.{Serving}
 use Rattle.serving.specs.declared.state.Got.{Got}
-use Rattle.serving.specs.State.{part, going, turns_max, idle, fresh_of, not_read, ended, differs, state_of, run_of, ended_by, passed_by, allowed, rest_of, gained_by, brought_by, met_by, further_by, judged_by}
+use Rattle.serving.specs.State.{part, not_read, ended, differs, ended_by, allowed, rest_of, gained_by, brought_by, met_by, further_by, judged_by}
 
 -- ---- of a PART no more than its limit
 module _ (mode limit n : ℕ) where
@@ -57,12 +54,6 @@ module _ (mode limit n : ℕ) where
 
 -- ---- the run
 module _ (s : Serving) where
-  pub ended-worse : (w : ℕ) → s.why < w → state_of s s.run s.left s.due s.held s.place 0 w ≡ ended_by s w
-  ended-worse w h = rw (lt-ltb _ _ h)
-
-  pub ended_same : (w : ℕ) → w ≤ s.why → state_of s s.run s.left s.due s.held s.place 0 s.why ≡ ended_by s w
-  ended_same w h = rw (le-ltb _ _ h)
-
   -- the number of what ended the run is at least that
   at_least : (w : ℕ) (b : Bool) → b ≡ ltb s.why w → w ≤ cond b w s.why
   at_least w true e = omega arith
@@ -70,15 +61,6 @@ module _ (s : Serving) where
 
   pub ended-at-least : (w : ℕ) → w ≤ (ended_by s w).why
   ended-at-least w = at_least w (ltb s.why w) refl
-
-  pub ended-stays : (w : ℕ) {r : Serving} → r ≡ ended_by s w → (r.turns ≤ s.turns) × (r.run ≡ s.run)
-  ended-stays w e = rw e (omega arith, refl)
-
-  pub passed_none : (t : Turned) → s.turns ≡ 0 → state_of s t.run s.left s.due s.held s.place s.turns s.why ≡ passed_by s t
-  passed_none t h = rw h
-
-  pub gained-by : (n : ℕ) {l : ℕ} → l ≡ rest_of s.mode s.left n → state_of s (run_of s.run s.run.at (s.run.have + n)) l s.due s.held s.place s.turns s.why ≡ gained_by s n
-  gained-by n e = rw e
 
   pub brought-failed : (g : Got) {r : Serving} → g.failed ≡ true → r ≡ ended_by s not_read → r ≡ brought_by s g
   unfolding brought_by
@@ -96,15 +78,6 @@ module _ (s : Serving) where
   unfolding brought_by
   brought-more g a b e = rw (a, ne_eqb _ _ b) e
 
-  pub met_by_lem : (n : ℕ) {l : ℕ} → l ≡ rest_of s.mode s.due n → state_of s s.run s.left l s.held s.place s.turns s.why ≡ met_by s n
-  met_by_lem n e = rw e
-
-  pub further-full : (n : ℕ) → turns_max - n < s.place → s ≡ further_by s n
-  further-full n h = let l : turns_max < s.place + n = omega arith in rw (lt-leb _ _ l)
-
-  pub further-on : (n : ℕ) → s.place ≤ turns_max - n → n < turns_max + 1 → state_of s s.run s.left s.due s.held (s.place + n) s.turns s.why ≡ further_by s n
-  further-on n h k = let l : s.place + n ≤ turns_max = omega arith in rw (le-leb _ _ l)
-
 -- ---- what is expected
 module _ (s : Serving) (got same n : ℕ) {v u : Serving} (e : v ≡ met_by s got) (f : u ≡ further_by v same) where
   pub judged-differs : {r : Serving} → same < n → r ≡ ended_by u differs → r ≡ judged_by s got same n
@@ -114,7 +87,3 @@ module _ (s : Serving) (got same n : ℕ) {v u : Serving} (e : v ≡ met_by s go
   pub judged-equal : n ≤ same → u ≡ judged_by s got same n
   unfolding judged_by
   judged-equal h = let k : u ≡ further_by (met_by s got) same = f ∙ rw e in rw (le-ltb _ _ h) k
-
-pub fresh-from : (i o : ℤ) (m l d : ℕ) {g : Run} → g ≡ idle
-    → record { run = g; input = i; output = o; mode = m; left = l; due = d; held = 0; place = 0; turns = turns_max; why = going } ≡ fresh_of i o m l d
-fresh-from i o m l d e = rw e
