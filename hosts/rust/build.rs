@@ -1,4 +1,4 @@
-//! Links the archive that `rt staticlib nickelhush` writes. NICKELHUSH_LIB names another folder.
+//! Links the archive that `tools/build nickelhush` writes. NICKELHUSH_LIB names another folder.
 use std::{env, path::PathBuf};
 
 fn main() {
