@@ -2,7 +2,7 @@
  * answer and output records come out. The library opens nothing, allocates nothing, keeps nothing between calls and
  * calls nothing of the host's: it has no state but the memory that is lent.
  *
- * Plain C11, x86-64, no dependency. Link with libnickelhush.a (`rt staticlib nickelhush`).
+ * Plain C11, x86-64, no dependency. Link with libnickelhush.a (`tools/build nickelhush`).
  * docs/RUN.md follows one whole run and says what each output asks of the host. hosts/c/mast.c is an example.
  *
  * What the host owes. Every call takes pointers with lengths, and answers any lengths. Each pointer is not null (also
