@@ -13,6 +13,7 @@ src/, specs/ and proofs/ of the crate and of those below it. While that stays th
 """
 
 import concurrent.futures
+import contextlib
 import fcntl
 import functools
 import hashlib
@@ -37,14 +38,14 @@ def kit():
 
 
 def heading(crate, edit):
-    """The first line of an edit's log while nothing has changed that its checks read, or that says which are made."""
+    """The first line of an edit's log while nothing changes that its checks read, or that reads what they wrote."""
     made = hashlib.sha256(kit())
     for name in (*below(crate), crate):
         made.update(listed()[name][0].encode())
         found = [it for part in PARTS for it in sorted((ROOT / 'crates' / name / part).rglob('*')) if it.is_file()]
         for path in found:
             made.update(repr((str(path.relative_to(ROOT)), path.read_bytes())).encode())
-    for path in (edit, ROOT / 'tools' / 'edits.py', ROOT / 'tools' / 'tries.py'):
+    for path in (edit, ROOT / 'tools' / 'edits.py'):
         made.update(path.read_bytes())
     return f'# {made.hexdigest()}'
 
@@ -55,8 +56,8 @@ def is_tried(crate, edit):
 
 
 def copy_kept(one, other, endings):
-    """Copies what a check kept, the files with these endings by links: a check removes such a file before it makes it
-    anew, and writes into none."""
+    """Copies what a check kept, the files with these endings by links: a check removes such a file before it makes
+    it anew, and writes into none."""
     def copy(source, to):
         if source.endswith(endings):
             os.link(source, to)
@@ -66,24 +67,25 @@ def copy_kept(one, other, endings):
 
 
 def lay_out(folder, room, crate, own=None):
-    """Makes a repository of a crate and those below it, these with the libraries that were built in their own rooms, and
-    the crate with what its check kept in the room own."""
+    """Makes a repository of a crate and those below it, these with the libraries that were built in their own
+    rooms, and the crate with what its check kept in the room own."""
     for name in (*below(crate), crate):
+        to = folder / 'crates' / name
         for part in PARTS:
             if (ROOT / 'crates' / name / part).is_dir():
-                shutil.copytree(ROOT / 'crates' / name / part, folder / 'crates' / name / part)
+                shutil.copytree(ROOT / 'crates' / name / part, to / part)
         if name != crate:
-            copy_kept(room / name / 'crates' / name / 'out' / 'rlib', folder / 'crates' / name / 'out' / 'rlib', '')
-    if own:
-        copy_kept(own / 'crates' / crate / 'out' / 'incremental', folder / 'crates' / crate / 'out' / 'incremental', '.oantt')
+            copy_kept(room / name / 'crates' / name / 'out' / 'rlib', to / 'out' / 'rlib', '')
+        elif own:
+            copy_kept(own / 'crates' / name / 'out' / 'incremental', to / 'out' / 'incremental', '.oantt')
     (folder / 'crates.txt').write_text(''.join(f'{listed()[name][0]}\n' for name in (*below(crate), crate)))
     if (ROOT / 'HANDLES').is_file():
         shutil.copy(ROOT / 'HANDLES', folder / 'HANDLES')
 
 
 def rt(folder, crate, *words):
-    """Calls rt in the crate's folder, once more where that gives no verdict, as when it was killed for memory; whether it
-    is proved, or None, and what it wrote."""
+    """Calls rt in the crate's folder, once more where that gives no verdict, as when it was killed for memory; whether
+    the crate is proved, or None, and what was written."""
     how = {'stdin': subprocess.DEVNULL, 'stdout': subprocess.PIPE, 'stderr': subprocess.STDOUT}
     for _ in range(2):
         ran = subprocess.run(['rt', *words], cwd=folder / 'crates' / crate, text=True, errors='replace', **how)
@@ -97,7 +99,7 @@ def rt(folder, crate, *words):
 
 
 def prove(room, crate, is_used, jobs):
-    """Checks a crate as it stands, in a room of its own; the end of what it wrote where that fails, or else nothing."""
+    """Checks a crate as it stands, in a room of its own; the end of what was written where that fails, or nothing."""
     lay_out(room / crate, room, crate)
     is_library = (ROOT / 'crates' / crate / 'src' / 'lib.rt').is_file()
     verb = 'lib' if is_used and is_library else 'check'
@@ -106,8 +108,8 @@ def prove(room, crate, is_used, jobs):
 
 
 def check_with(room, crate, texts):
-    """Checks a crate with these texts of its files, over what its own check kept; whether it is proved, or None,
-    and what it wrote."""
+    """Checks a crate with these texts of its files, over what its own check kept; whether it is proved, or None, and
+    what was written."""
     with tempfile.TemporaryDirectory(prefix=f'{crate}-', dir=room) as folder:
         folder = pathlib.Path(folder)
         lay_out(folder, room, crate, room / crate)
@@ -151,30 +153,42 @@ def lanes():
     return max(1, min(len(os.sched_getaffinity(0)), int(free.group(1)) // MEMORY))
 
 
-def side_by_side(tasks):
-    """Runs tasks, each once those that it waits for have ended, the foremost first, and returns what each gave. A task is
-    the keys of those it waits for, and a call that gets what was given and how many jobs it may use."""
-    most, given, running, left = lanes(), {}, {}, dict(tasks)
+def side_by_side(proofs, trials):
+    """Runs proofs, and trials in the lanes that these leave free, each once the proofs that it waits for have ended,
+    and returns what each gave. Either is the keys that it waits for and a call that gets what was given and how many
+    jobs it may use: one, but for a proof where fewer are to run than there are lanes."""
+    most, given, running, left = lanes(), {}, {}, {**proofs, **trials}
     with concurrent.futures.ThreadPoolExecutor(most) as pool:
         while left or running:
             ready = [key for key, (waits, _) in left.items() if all(it in given for it in waits)]
-            idle = most - sum(jobs for _, jobs in running.values())
-            for at, key in enumerate(ready[:max(idle, 0)]):
-                # (a lane that nothing else waits for goes to those that come first)
-                jobs = 1 + (idle - len(ready) if at == 0 and len(ready) < idle else 0)
-                running[pool.submit(left.pop(key)[1], given, jobs)] = key, jobs
+            of_proofs, idle = sum(key in proofs for key in ready), most - sum(jobs for _, jobs in running.values())
+            for at, key in enumerate(ready):
+                if idle > 0:
+                    jobs = max(1, idle // (of_proofs - at)) if key in proofs else 1
+                    running[pool.submit(left.pop(key)[1], given, jobs)] = key, jobs
+                    idle -= jobs
             for it in concurrent.futures.wait(running, return_when='FIRST_COMPLETED').done:
                 given[running.pop(it)[0]] = it.result()
     return given
 
 
+def sweep():
+    """Removes what runs that were killed left among the temporary files."""
+    for room in pathlib.Path(tempfile.gettempdir()).glob(f'refusals-{os.getuid()}-*'):
+        if room.is_dir():
+            with contextlib.suppress(OSError), open(f'{room}.lock', 'w') as lock:
+                fcntl.flock(lock, fcntl.LOCK_EX | fcntl.LOCK_NB)
+                shutil.rmtree(room, ignore_errors=True)
+
+
 def try_all(crates):
-    """Tries the edits of these crates that have no log of what stands here, and returns what is to be said of others."""
+    """Tries the edits of these crates that have no log of what stands here, and returns why others were not tried."""
     lacking = [(crate, edit) for crate in crates for edit in edits_of(crate) if not is_tried(crate, edit)]
     if not lacking:
         return []
     # (the same place each time, so that rt's notes of where work is kept do not grow with each run)
     of = hashlib.sha256(str(ROOT).encode()).hexdigest()[:12]
+    sweep()
     room = pathlib.Path(tempfile.gettempdir()) / f'refusals-{os.getuid()}-{of}'
     with open(f'{room}.lock', 'w') as lock:
         fcntl.flock(lock, fcntl.LOCK_EX)
@@ -198,7 +212,7 @@ def try_in(room, lacking):
 
     firsts = {it: heading(*it) for it in lacking}
 
-    def trial(crate, edit, given, jobs):
+    def trial(crate, edit, given, _):
         why = f'{crate} is not proved as it stands'
         why = why if given[crate] else try_edit(room, crate, edit, firsts[crate, edit])
         print(f'{crate}/{edit.stem}: {"NOT TRIED" if why else "tried"}', flush=True)
@@ -206,8 +220,8 @@ def try_in(room, lacking):
 
     above = {crate: sum(crate in below(it) for it in needed) for crate in needed}
     order = sorted(needed, key=lambda crate: -above[crate])
-    tasks = {crate: (below(crate), functools.partial(proof, crate)) for crate in order}
-    tasks.update({(crate, edit): ([crate], functools.partial(trial, crate, edit)) for crate, edit in lacking})
-    given = side_by_side(tasks)
+    given = side_by_side(
+        {crate: (below(crate), functools.partial(proof, crate)) for crate in order},
+        {(crate, edit): ([crate], functools.partial(trial, crate, edit)) for crate, edit in lacking})
     out = [f'{crate}: not proved as it stands: {given[crate]}' for crate in order if given[crate]]
     return out + [given[it] for it in lacking if given[it]]
