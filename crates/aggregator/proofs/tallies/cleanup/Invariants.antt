@@ -6,7 +6,7 @@ use Rattle.aggregator.proofs.Rows.{Mapped}
 use Rattle.aggregator.proofs.tallies.cleanup.Given as goal
 
 abbrev pub invariant-loop-i : goal.invariant-loop-i
-invariant-loop-i l = (l.i ≤ l.n) × Mapped (kept l.round.0) l.w l.initial.v l.i l.v
+invariant-loop-i l = (l.i ≤ l.n) × Mapped (kept l.fn.round.0) l.w l.initial.v l.i l.v
 
 abbrev pub decreases-loop-i : goal.decreases-loop-i
 decreases-loop-i l = l.n - l.i
