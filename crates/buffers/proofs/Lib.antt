@@ -1,3 +1,4 @@
 -- The laws of the loops.
 pub mod Moves
 pub mod Sums
+pub mod Taken

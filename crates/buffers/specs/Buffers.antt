@@ -1,7 +1,8 @@
 -- What the contracts of `buffers` cite.
 --     Alike a b n i      a and b have the first i bytes in common, of n, and no more
 --     mixed h x          the sum h after one more byte
---     sum_of h s          the sum h after the bytes of s
+--     sum_of h s         the sum h after the bytes of s
+--     large              the bytes of a buffer for a loop that moves many
 use Rattle.std.specs.Prelude.{◌≡◌, ℕ, ◌+◌, ◌*◌, ◌%◌, ◌≤◌, ◌<◌, List, [], ◌∷◌, take, get_or}
 
 pub record Alike (a b : List ℕ) (n i : ℕ) : Type 0 where
@@ -16,3 +17,6 @@ mixed h x = (h * 257 + x + 1) % 4294967291
 unfoldable pub sum_of : ℕ → List ℕ → ℕ
 sum_of h [] = h
 sum_of h (x ∷ s) = sum_of (mixed h x) s
+
+abbrev pub large : ℕ
+large = 65536

@@ -1,18 +1,18 @@
--- Laws of what is unread, where a read put bytes behind it, and of what is expected. Assumes nothing.
+-- Laws of what is unread, where a read put bytes behind it, and of what is delivered: what `hold` puts behind what waits or alone, and what `compare` found. Assumes nothing.
 use mathlib.Core.Path.{◌≡◌, refl, sym, ◌∙◌, ap}
 use Prim.Native.Nat.{ℕ, zero, suc, ◌+◌, ◌-◌, ◌≤◌, ◌<◌}
 use mathlib.Core.Bool.{Bool, true, false, cond}
-use mathlib.Core.List.{List, [], ◌∷◌}
+use mathlib.Core.List.{List, [], ◌∷◌, ◌++◌}
 use native.Mathlib.Omega.{arith}
-use borrow.Author.Tests.{ltb-false}
+use borrow.Author.Tests.{ltb-false, le-leb, lt-leb}
 use lib.Dec.{eqb, ltb}
-use lib.ListN.{length, take, drop, length-take}
-use lib.Seq.{take-nil, take-length, take-take}
+use lib.ListN.{length, take, drop, length-append, length-take}
+use lib.Seq.{length-take-le, take-nil, take-length, take-take, take_at, paste}
 use Rattle.buffers.specs.Buffers.{Alike}
 use Rattle.serving.specs.declared.state.Serving.{Serving}
 use Rattle.serving.specs.declared.state.Got.{Got}
-use Rattle.serving.specs.State.{gained_by, brought_by, judged_by, not_read, write, part, ended, differs, ended_by, allowed, met_by, further_by}
-use Rattle.serving.specs.Bytes.{unread, Kept, Refills, Delivers}
+use Rattle.serving.specs.State.{gained_by, brought_by, judged_by, not_read, write, part, ended, differs, ended_by, allowed, met_by, held_by, further_by}
+use Rattle.serving.specs.Bytes.{unread, Kept, Refills, Flushes, Delivers}
 use Rattle.serving.proofs.StateLaws.{allowed-part, rest-less, ended-at-least}
 
 -- ---- what is unread
@@ -67,12 +67,37 @@ module _ (s : Serving) (before after : List ℕ) (same : take s.run.have after �
   refills-brought g most room h a b e =
       rw e (by_tests g g.failed (eqb g.n 0) (eqb s.mode part) h (λ p. let l : allowed s.mode s.left room ≤ s.left = allowed-part _ _ _ p in omega arith))
 
--- ---- what is expected
+-- ---- what is delivered
 module _ (s : Serving) (out before : List ℕ) (n : ℕ) where
   -- a run that ended by a fault delivers nothing
   delivers-none : {r : Serving} {after : List ℕ} → r.turns ≤ s.turns → r.run ≡ s.run → ended < r.why → Delivers s out before n r after
   delivers-none h e l = record { turns = h; run = e; waits = λ _ m. absurd (omega arith); expected = λ _ m. absurd (omega arith) }
 
+  pub delivers-behind : {u r : Serving} {after : List ℕ} → s.held ≤ length before → n ≤ length before - s.held → n ≤ length out → s.mode ≡ write
+      → after ≡ paste before s.held out n → u ≡ held_by s (s.held + n) → r ≡ further_by u n → Delivers s out before n r after
+  delivers-behind h k l m p e f =
+      let fit : s.held + n ≤ length before = omega arith in
+      let long : length (take s.held before ++ take n out) ≡ s.held + n = rw (length-append, length-take-le s.held before h, length-take-le n out l) in
+      rw (f, e, p) record {
+        turns = omega arith;
+        run = refl;
+        waits = λ _ _. rw (le-leb _ _ fit) (take_at _ _ _ long);
+        expected = λ d _. absurd (d m);
+      }
+
+  module _ {u : Serving} (done : Flushes s u) where
+    pub delivers-alone : {v r : Serving} {after : List ℕ} → s.held ≤ length before → length before - s.held < n → n ≤ length out → s.mode ≡ write
+        → after ≡ paste before 0 out n → v ≡ held_by u n → r ≡ further_by v n → Delivers s out before n r after
+    delivers-alone h k l m p e f =
+        let over : length before < s.held + n = omega arith in
+        rw (f, e, p) record {
+          turns = done.turns;
+          run = done.run;
+          waits = λ _ _. rw (lt-leb _ _ over) (take_at (take n out) _ _ (length-take-le n out l));
+          expected = λ d _. absurd (d m);
+        }
+
+  -- ---- what is expected
   pub delivers-judged : (most got same : ℕ) {r : Serving} {after : List ℕ} → (s.mode ≡ write → ⊥) → most ≤ n → got ≤ most → Alike out after got same → r ≡ judged_by s got same n → Delivers s out before n r after
   unfolding judged_by
   delivers-judged most got same {r} {after} m a b p e = rw e (by-test (ltb same n) refl)
