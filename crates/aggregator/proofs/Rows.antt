@@ -4,8 +4,8 @@
 --     part-..., put-...      a row that is lent as a part, and the table once it is back
 --     row-...                the numbers and the place of a row
 --     Mapped, map-...        a table of which i rows are replaced
---     with_row-...            a table with another row i
---     map_rows-...            a table with every row replaced
+--     with_row-...           a table with another row i
+--     map_rows-...           a table with every row replaced
 --     zeros-...              a table of zeros
 --     sets-whole, one_shl    a row that is written whole; a bit that is shifted to its place
 -- Assumes nothing.

@@ -1,9 +1,9 @@
 -- A table that lies in one list, row after row, each w numbers wide. Nothing here knows what a row means.
 --     zeros n              n zeros
 --     row w v i            row i; what there is of it where the list ends before
---     with_row w v i r      the table with the numbers of r in the place of row i
+--     with_row w v i r     the table with the numbers of r in the place of row i
 --     lowest p w v n i     the lowest of the n rows from row i on that passes the test p; Nothing if none does
---     map_rows f w n v      the table with f applied to each of the first n rows
+--     map_rows f w n v     the table with f applied to each of the first n rows
 --     FoundAs f n r        r is what was to be found, f, and if that is a row it is one of the first n
 use Rattle.std.specs.Prelude.{ℕ, zero, suc, ◌*◌, ◌<◌, Bool, cond, List, ◌++◌, ◌≡◌, take, drop, replicate}
 use Rattle.aggregator.specs.declared.tallies.Found.{Found}

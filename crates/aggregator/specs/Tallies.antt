@@ -1,23 +1,23 @@
 -- Tables of tallies: 01, Events, and "Numbers the host sees". A table is a list of n tallies, each w numbers wide.
---     vote_tallies, timeout_tallies         how many tallies there are
---     votes_length, timeouts_length         how many numbers that makes
---     total_max                            the most that the stakes of all members may be
---     find_row test w n v                  the lowest tally that passes the test
---     find_free w n v                      the lowest that is not in use
---     find_heavy w n v total, heavy w n v total      the lowest in use that is heavier than the total; whether there is one (is_at)
---     any_heavy votes timeouts total       whether there is one in the table of votes or in that of timeouts
+--     vote_tallies, timeout_tallies       how many tallies there are
+--     votes_length, timeouts_length       how many numbers that makes
+--     total_max                           the most that the stakes of all members may be
+--     find_row test w n v                 the lowest tally that passes the test
+--     find_free w n v                     the lowest that is not in use
+--     find_heavy w n v total, heavy w n v total     the lowest in use that is heavier than the total; whether there is one (is_at)
+--     any_heavy votes timeouts total      whether there is one in the table of votes or in that of timeouts
 --     Light w n v total                   none in use is heavier than the total
 --     joined w n v                        every bit that the weight of some of the n tallies has, in use or not
 --     dropped w n v round                 the table once the round is `round`
---     place_for test w n v                 the row of the tally that passes the test, or of a new one; Nothing if all are held (first_of)
---     table_for test new w n v             the table with that tally in it, `new` where there was none (opened)
+--     place_for test w n v                the row of the tally that passes the test, or of a new one; Nothing if all are held (first_of)
+--     table_for test new w n v            the table with that tally in it, `new` where there was none (opened)
 --     TallyFor test new w n v r v'        r is the row, and v' the table
 --     Countable w n v p stake             what is asked of a table, a place and its stake before the author is counted
 --     added test new w n v p stake need   what is answered once an author is counted in that tally (answer_at)
 --     after test new mark w n v p stake need      the table then; a refusal leaves it as it was (table_at)
---     vote_added, votes_after               the two for a vote
---     timeout_added, timeouts_after         the two for a timeout
---     highs_at v i                         the high rounds of the timeout tally in row i, by place
+--     vote_added, votes_after             the two for a vote
+--     timeout_added, timeouts_after       the two for a timeout
+--     highs_at v i                        the high rounds of the timeout tally in row i, by place
 --     HighsAs v i h                       h is those, one for each place
 use Rattle.std.specs.Prelude.{ℕ, zero, suc, ◌*◌, ◌≤◌, ◌<◌, Bool, true, false, cond, ◌||◌, List, ◌≡◌, length, drop}
 use Rattle.std.specs.Int.Bits.{bit_or}

@@ -1,21 +1,21 @@
 -- A single tally, a row of numbers: 01, Events, and "Numbers the host sees".
 --     fields, places                  the numbers that both kinds of tally begin with; the places that have a bit and a high round
---     vote_width, timeout_width         how many numbers a tally has
---     used_of, round_of, weight_of, names_of, hash_of      its numbers; a number past its end is 0
---     is_free t                        it is not in use: its used mark is 0. Any other mark is in use
---     is_vote round hash t             it is in use for the round and the hash
---     of_round round t                 it is in use for the round; round_with says it by used mark and round
---     is_heavy total t                 it is in use, with a weight above the total; heavy_with says it by used mark and weight
+--     vote_width, timeout_width       how many numbers a tally has
+--     used_of, round_of, weight_of, names_of, hash_of  its numbers; a number past its end is 0
+--     is_free t                       it is not in use: its used mark is 0. Any other mark is in use
+--     is_vote round hash t            it is in use for the round and the hash
+--     of_round round t                it is in use for the round; round_with says it by used mark and round
+--     is_heavy total t                it is in use, with a weight above the total; heavy_with says it by used mark and weight
 --     kept round t                    the tally once the round is `round`
---     new_vote round hash, new_timeout round      a tally that nobody is counted in
---     has_name names p, with_name names p         whether bit p of a word is set, and the word with it set
+--     new_vote round hash, new_timeout round    a tally that nobody is counted in
+--     has_name names p, with_name names p       whether bit p of a word is set, and the word with it set
 --     signers names                   the set of places with these names
---     with_names t names, with_weight t weight    the tally with other names, with another weight
---     with_high p high t, no_high t     the tally with the high round of place p, and as it is
---     weight_after weight need         a weight, or 0 where it makes the quorum
+--     with_names t names, with_weight t weight  the tally with other names, with another weight
+--     with_high p high t, no_high t   the tally with the high round of place p, and as it is
+--     weight_after weight need        a weight, or 0 where it makes the quorum
 --     with_author mark t p stake need  the tally with one more author; `mark` is `with_high p high` or `no_high`
 --     counted mark t p stake need     the same, but a used author changes nothing
---     answer_of i t p stake need       what is then answered of the tally in row i
+--     answer_of i t p stake need      what is then answered of the tally in row i
 --     AddedAs a v r v'                the answer r is a, and the numbers v' are v
 use Rattle.std.specs.Prelude.{ℕ, ◌+◌, ◌/◌, ◌%◌, ◌^◌, Bool, false, cond, List, [], ◌∷◌, ◌≡◌, eqb, ltb, length, get_or, set}
 use Rattle.std.specs.Int.Bits.{bit_or}

@@ -1,5 +1,5 @@
 -- The course of a member that obeys keeps all that is asked of a life. Premises: `Cabinets`. Assumes nothing.
---     Loops, Proposed, Made, Processed, Found, trace_of r      what happens to blocks in a course
+--     Loops, Proposed, Made, Processed, Found, trace_of r     what happens to blocks in a course
 --     source             LOOPBACK carries what was offered before
 --     stored             the table holds what was offered
 --     votes, commits     votes and commits

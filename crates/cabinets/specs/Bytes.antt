@@ -1,7 +1,7 @@
 -- W11 on bytes: what a host that calls `step` for a course finds in its buffers.
---     commit_kind          the kind of a COMMIT
---     commits_from n s     the COMMITs among the first n records of the output bytes s, as they lie
---     commits_in s         all of them
+--     commit_kind         the kind of a COMMIT
+--     commits_from n s    the COMMITs among the first n records of the output bytes s, as they lie
+--     commits_in s        all of them
 --     Calls c             the calls of `step` that make the course c: START, and one for each stage
 use Rattle.std.specs.Prelude.{ℕ, zero, suc, ◌+◌, false, cond, List, [], ◌∷◌, ◌++◌, map, ◌≡◌, eqb, leb, length, take, drop}
 use Rattle.certificates.specs.Num.{num_at}

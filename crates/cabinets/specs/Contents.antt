@@ -1,7 +1,7 @@
 -- What a block says: all of it that votes and commits look at, and none of how it lies in bytes.
 --     Ending              a block's TC, if it has one: its round and its largest high round
 --     Content             digest, round, QC and TC of a block
---     ending_of, content_of b     the TC and the content of a block that an event carries
+--     ending_of, content_of b   the TC and the content of a block that an event carries
 --     MadeFrom a c        the content c is that of a block made from the record a, a MAKE (Builds)
 use Rattle.std.specs.Prelude.{ℕ, cond, ◌≡◌, eqb}
 use Rattle.certificates.specs.declared.numbers.Hash.{Hash}

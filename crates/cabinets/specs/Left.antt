@@ -3,7 +3,7 @@
 --     Leaves w ss ls      of what the stages ss write, from the world w on, the records ls left
 --     LeftOf c ls         of what the course c wrote after START, ls left. START writes no COMMIT
 --     Part xs ys          xs is ys with some left out
---     last_commit l ls     the round of the last COMMIT of the list ls, and l where there is none
+--     last_commit l ls    the round of the last COMMIT of the list ls, and l where there is none
 --     Tells k l           at each restart the last COMMIT that left is of the image's last committed round; l is that of the last that left before
 --     Within k l          at each restart it is not above it
 use Rattle.std.specs.Prelude.{ℕ, ◌≤◌, true, false, List, [], ◌∷◌, ◌++◌, ◌≡◌}

@@ -1,7 +1,7 @@
 -- The rules that W11 rests on, over lives: what a vote says of a block and its parent, and what a commit delivers. Each is a rule of 01; that a course of the definition
 -- keeps them all is `keeps-rules` of proofs/Events.
 --     Parent, Blocks          what a block stands on; one block to a digest
---     round_of, below          the round of what a block stands on
+--     round_of, below         the round of what a block stands on
 --     Backed d                the block has a certificate
 --     Sound d                 what is so of a block that a member who obeys votes for
 --     Rule l d                the voting rule, for a block that a member votes for

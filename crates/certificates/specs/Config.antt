@@ -1,12 +1,12 @@
 -- 01, Members, stake, leader: a committee is the list m of its members' stakes, by place.
---     members_max       the most members
---     total_max         the most stake
+--     members_max      the most members
+--     total_max        the most stake
 --     sum xs           the sum of a list; of a committee, its total stake
---     stake_of m p      the stake of place p; 0 where p is no member's
---     quorum_from t     the quorum of a total
---     quorum_of m       the quorum of a committee
+--     stake_of m p     the stake of place p; 0 where p is no member's
+--     quorum_from t    the quorum of a total
+--     quorum_of m      the quorum of a committee
 --     limited t        the total, or `Bad` where it is above the limit
---     setup_of m        the total of a committee within the limits, else `Bad`
+--     setup_of m       the total of a committee within the limits, else `Bad`
 use Rattle.std.specs.Prelude.{ℕ, ◌+◌, ◌*◌, ◌/◌, List, [], ◌∷◌, cond, length, get_or, eqb, ltb}
 use Rattle.certificates.specs.declared.config.Setup.{Setup}
 use Rattle.certificates.specs.declared.config.Setup.TheVariants.{Bad, Total}

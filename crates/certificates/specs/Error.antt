@@ -1,8 +1,8 @@
 -- 01, Numbers the host sees, in 01's order.
---     done .. started_again    the numbers
---     number_of c quorum       of what a certificate's check found, `quorum` being the number for no quorum
---     author_number a          of what an author's check found
---     setup_number s           of what START's check found
+--     done .. started_again   the numbers
+--     number_of c quorum      of what a certificate's check found, `quorum` being the number for no quorum
+--     author_number a         of what an author's check found
+--     setup_number s          of what START's check found
 use Rattle.std.specs.Prelude.{ℕ}
 use Rattle.certificates.specs.declared.config.Setup.{Setup}
 use Rattle.certificates.specs.declared.config.Setup.TheVariants.{Bad, Total}

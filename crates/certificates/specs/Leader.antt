@@ -1,5 +1,5 @@
 -- 01, Members, stake, leader.
---     leader_of m r     the place that leads round r; place 0 where there are no members, or more than the limit
+--     leader_of m r    the place that leads round r; place 0 where there are no members, or more than the limit
 use Rattle.std.specs.Prelude.{ℕ, ◌%◌, List, cond, length, eqb, ltb}
 use Rattle.certificates.specs.Config.{members_max}
 

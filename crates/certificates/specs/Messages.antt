@@ -1,19 +1,19 @@
 -- 01, Certificates: a QC's equality with genesis, what the checks of certificates and of authors answer, for every input.
---     is_genesis h round    whether a QC of this hash and round equals genesis
+--     is_genesis h round   whether a QC of this hash and round equals genesis
 --     Form                 how a certificate lies in bytes: where its verdict is, and how long an entry of its list
---     qc_form tc_form        of a QC and of a TC
---     verdict_in f part     the verdict byte
---     count_of f part       the count of entries
---     places_in f part      the places of the signers, in the list's order
---     is_whole f part       whether the bytes hold the whole list
---     unknown_to m p        whether place p is no member with stake
+--     qc_form tc_form      of a QC and of a TC
+--     verdict_in f part    the verdict byte
+--     count_of f part      the count of entries
+--     places_in f part     the places of the signers, in the list's order
+--     is_whole f part      whether the bytes hold the whole list
+--     unknown_to m p       whether place p is no member with stake
 --     settled_of settled_by  the quorum, then the verdict: of a list of places, of a set of signers
---     check_from            the rest of a list of places, after those seen
---     check_part f m need part    a certificate of the form f
---     qc_check tc_check      a QC, a TC
---     equals_genesis part   whether the bytes are a QC that equals genesis
---     embedded_check        the QC inside a block or a timeout
---     author_check m p verdict    an author
+--     check_from           the rest of a list of places, after those seen
+--     check_part f m need part   a certificate of the form f
+--     qc_check tc_check    a QC, a TC
+--     equals_genesis part  whether the bytes are a QC that equals genesis
+--     embedded_check       the QC inside a block or a timeout
+--     author_check m p verdict   an author
 use Rattle.std.specs.Prelude.{ℕ, ◌+◌, ◌*◌, List, [], ◌∷◌, ◌++◌, Bool, true, false, cond, length, eqb, ltb, leb}
 use Rattle.certificates.specs.declared.numbers.Hash.{Hash}
 use Rattle.certificates.specs.declared.numbers.Signers.{Signers}

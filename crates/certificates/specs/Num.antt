@@ -1,8 +1,8 @@
 -- Little-endian numbers and hashes in a list of bytes.
 --     le s             the number whose bytes these are, the lowest first
---     num_at w s at     the number in the w bytes from `at` on; 0 where they do not all lie in s
---     hash_at s at      the hash in the 32 bytes from `at` on; zeros where they do not all lie in s
---     nums_at w k n s at    the numbers of w bytes that n entries of k bytes from `at` on begin with
+--     num_at w s at    the number in the w bytes from `at` on; 0 where they do not all lie in s
+--     hash_at s at     the hash in the 32 bytes from `at` on; zeros where they do not all lie in s
+--     nums_at w k n s at   the numbers of w bytes that n entries of k bytes from `at` on begin with
 use Rattle.std.specs.Prelude.{ℕ, zero, suc, ◌+◌, ◌*◌, cond, List, [], ◌∷◌, length, take, drop, leb}
 use Rattle.certificates.specs.declared.numbers.Hash.{Hash}
 use Rattle.certificates.specs.Numbers.{zero_hash}

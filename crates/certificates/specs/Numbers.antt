@@ -1,7 +1,7 @@
 -- Hashes and rounds. A hash of 32 bytes is four numbers of 8 bytes.
---     zero_hash        the 32 zero bytes
---     same_hash x y    whether two hashes are the same
---     round_max        the highest round
+--     zero_hash       the 32 zero bytes
+--     same_hash x y   whether two hashes are the same
+--     round_max       the highest round
 use Rattle.std.specs.Prelude.{ℕ, ◌^◌, Bool, false, cond, eqb}
 use Rattle.certificates.specs.declared.numbers.Hash.{Hash}
 

@@ -1,26 +1,26 @@
 -- 01, Certificates: sets of signers. "Accepted signers are kept as one 64-bit word, bit p for place p; the number of signers is the count of ones
 -- in that word."
 -- A word:
---     bit_of w p        bit p, 0 or 1
---     sum_at xs w       the sum of the numbers in a list whose bit is set: bit 0 for the first
+--     bit_of w p       bit p, 0 or 1
+--     sum_at xs w      the sum of the numbers in a list whose bit is set: bit 0 for the first
 -- A set, as a list of words, of which the first has the lowest places:
---     word_bits         the places of a word
---     is_in ws p        1 where p is in the set, else 0
---     count_in ws       how many are in it
---     stake_in m ws     their stake
---     add_to ws p       the set with p; as it was where it has no room for p
+--     word_bits        the places of a word
+--     is_in ws p       1 where p is in the set, else 0
+--     count_in ws      how many are in it
+--     stake_in m ws    their stake
+--     add_to ws p      the set with p; as it was where it has no room for p
 --     both vs ws       what is in both
 --     either vs ws     what is in one or the other
 -- Signers, which are one word:
 --     words s          as a list of words
---     no_signers        none
---     with_signer s p   one more
+--     no_signers       none
+--     with_signer s p  one more
 --     signers_from s ps one more for each of a list of places
---     signers_of ps     those at a list of places
---     weight_of m s     their stake
+--     signers_of ps    those at a list of places
+--     weight_of m s    their stake
 -- A list of places:
 --     member p ps      whether p is among them
---     stake_on m ps     their stake
+--     stake_on m ps    their stake
 --     shared ps qs     those of ps that are among qs as well
 use Rattle.std.specs.Prelude.{ℕ, zero, suc, ◌+◌, ◌-◌, ◌*◌, ◌/◌, ◌%◌, ◌^◌, List, [], ◌∷◌, Bool, false, cond, ◌||◌, take, drop, eqb, ltb}
 use Rattle.std.specs.Int.Bits.{bit_or, bit_and}

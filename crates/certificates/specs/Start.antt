@@ -1,15 +1,15 @@
 -- 01, The trace form: START's body is "count 2, own place 2, then key 32 and stake 4 each". Bytes past the end read as 0.
---     members_at member_len key_len    where the first member is, how long a member is, and how long its key
---     member_count body     the count
---     own_place body        the own place
---     stakes_in body        the stakes, as many as the count says
---     key_at body at        the key at a place, as a list of bytes
---     keys_from n body at   n keys, of which the first is at a place
---     keys_in body          the keys, as many as the count says
+--     members_at member_len key_len  where the first member is, how long a member is, and how long its key
+--     member_count body    the count
+--     own_place body       the own place
+--     stakes_in body       the stakes, as many as the count says
+--     key_at body at       the key at a place, as a list of bytes
+--     keys_from n body at  n keys, of which the first is at a place
+--     keys_in body         the keys, as many as the count says
 --     below k l            whether key k is strictly before key l by bytes: the first byte that differs decides
---     same_word body x y left     whether the next 8 of so many bytes that are left lie in the body at both places, and are the same
+--     same_word body x y left    whether the next 8 of so many bytes that are left lie in the body at both places, and are the same
 --     ascending ks         whether each key is below the next
---     setup_at body         the total where the body keeps 01's limits, else `Bad`
+--     setup_at body        the total where the body keeps 01's limits, else `Bad`
 --     padded n xs          the first n of a list, with 0 where it has ended
 --     loaded_stakes n body  n stakes by place: the members', then 0
 use Rattle.std.specs.Prelude.{ℕ, zero, suc, ◌+◌, List, [], ◌∷◌, Bool, true, false, cond, eqb, ltb, leb, length}

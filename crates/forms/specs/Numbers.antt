@@ -1,10 +1,10 @@
 -- The number of a record by its form and its limits alone. 01, Numbers the host sees: "Order: 16, 34 or 33, 18, 17, 32, 20, 19", of which
 -- 16, 32, 20 and 19 need no state.
---     by_form k n       16 for a record without form, and else n, the number that it gets by its limits
---     number_of r       the number of a record, its kind and body
---     by_front f s      what the front f of a trace s asks for
---     turn_of s         what the front of a trace asks for: an answer, and where the next record starts; nothing where there is none or it is cut
---     too_long s        whether the length at the front is above the most
+--     by_form k n      16 for a record without form, and else n, the number that it gets by its limits
+--     number_of r      the number of a record, its kind and body
+--     by_front f s     what the front f of a trace s asks for
+--     turn_of s        what the front of a trace asks for: an answer, and where the next record starts; nothing where there is none or it is cut
+--     too_long s       whether the length at the front is above the most
 use Rattle.std.specs.Prelude.{ℕ, Bool, List, ltb}
 use Rattle.certificates.specs.Num.{num_at}
 use Rattle.certificates.specs.Error.{bad_record}

@@ -1,9 +1,9 @@
 -- A trace answered record by record into a buffer, as far as there is a whole record and room.
---     end_of t                      where the next record starts; 0 where there is no answer
---     with_first t ns               the number of a turn in front of those of the turns after it; none where there is no answer
---     numbers_of n s                the numbers of the whole records at the front of s, of n at most
---     used_of n s                   the bytes of these records
---     room_in o                     how many ANSWERs a buffer has room for
+--     end_of t                     where the next record starts; 0 where there is no answer
+--     with_first t ns              the number of a turn in front of those of the turns after it; none where there is no answer
+--     numbers_of n s               the numbers of the whole records at the front of s, of n at most
+--     used_of n s                  the bytes of these records
+--     room_in o                    how many ANSWERs a buffer has room for
 --     RanIs trace before after r   the numbers of as many records as there is room for were written, and the bytes of these records taken
 use Rattle.std.specs.Prelude.{ℕ, zero, suc, ◌+◌, ◌/◌, ◌≡◌, List, [], ◌∷◌, map, length, drop}
 use Rattle.outputs.specs.Put.{Wrote}

@@ -1,16 +1,16 @@
 -- 01, Events: PROPOSE, up to its payload. m is the committee, s the state, b the block, r the record's bytes.
---     leader_check m b                       leader; author stake; verdict
---     qc_found m r                           what the check of the block's QC finds
---     tc_number m b r                        the number of its TC's check
---     proposal_check m b r qc                the checks in 01's order: the number of the first that is not passed, or 0
---     advanced_tc b s                        advance by TC
+--     leader_check m b                      leader; author stake; verdict
+--     qc_found m r                          what the check of the block's QC finds
+--     tc_number m b r                       the number of its TC's check
+--     proposal_check m b r qc               the checks in 01's order: the number of the first that is not passed, or 0
+--     advanced_tc b s                       advance by TC
 --     taken s b signers                     take QC; advance by TC
 --     Proposal                              an outcome before the table of blocks, and whether the block goes on to it
---     payload_number, by_payload payload a    what the payload's verdict makes of a block whose certificates were taken
---     proposal_of m s b r payload            what a proposal does
+--     payload_number, by_payload payload a  what the payload's verdict makes of a block whose certificates were taken
+--     proposal_of m s b r payload           what a proposal does
 --     Proposes k p ..                       what code did, against such a definition
---     refused_as core n, payload_as a payload     what code hands on of a proposal that is refused early, and of one that is not
---     taken_most                             the most bytes that a proposal writes
+--     refused_as core n, payload_as a payload   what code hands on of a proposal that is refused early, and of one that is not
+--     taken_most                            the most bytes that a proposal writes
 use Rattle.std.specs.Prelude.{ℕ, ◌+◌, Bool, false, cond, List, ◌≡◌, eqb}
 use Rattle.certificates.specs.declared.numbers.Signers.{Signers}
 use Rattle.certificates.specs.declared.messages.Checked.{Checked}

@@ -1,7 +1,7 @@
 -- What a handler may rely on: a record that counts as started, and a check's answers.
 --     Sound m own votes timeouts     the committee and the own place within the limits, tallies of the right sizes and none too heavy
 --     first a b                      the first of two checks that is not passed
---     signers_of c                    the signers that a check accepted; none where it did not
+--     signers_of c                   the signers that a check accepted; none where it did not
 use Rattle.std.specs.Prelude.{ℕ, ◌≤◌, ◌<◌, cond, List, ◌≡◌, eqb, length}
 use Rattle.certificates.specs.Config.{members_max, total_max, sum}
 use Rattle.certificates.specs.declared.numbers.Signers.{Signers}

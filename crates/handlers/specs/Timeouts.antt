@@ -1,18 +1,18 @@
 -- 01, Events: TIMEOUT, TC, TICK. m is the committee, own the own place, s the state, r the record's bytes.
---     handle_timeout_most, handle_tc_most, tick_most, local_timeout_most     the most bytes that are written
---     timeout_check m current t              the checks of a timeout itself
---     timeout_taken m own s t signers        its QC is taken, then the timeout counted
---     timeout_with m own s t qc              TIMEOUT, by what the check of its QC answers
---     handled_timeout m own s t r            TIMEOUT
---     tc_taken m own s round names part      advance, then MAKE with the TC
---     stale_if round current                 STALE for a round below the current one
---     tc_with m own s round part tc          TC, by what its check answers
---     handled_tc m own s round r             TC
---     voted_up c round                       last voted raised to a round, never lowered
---     tick_outs c, ticked s                  what a tick writes, and all that it does before the own timeout
+--     handle_timeout_most, handle_tc_most, tick_most, local_timeout_most  the most bytes that are written
+--     timeout_check m current t             the checks of a timeout itself
+--     timeout_taken m own s t signers       its QC is taken, then the timeout counted
+--     timeout_with m own s t qc             TIMEOUT, by what the check of its QC answers
+--     handled_timeout m own s t r           TIMEOUT
+--     tc_taken m own s round names part     advance, then MAKE with the TC
+--     stale_if round current                STALE for a round below the current one
+--     tc_with m own s round part tc         TC, by what its check answers
+--     handled_tc m own s round r            TC
+--     voted_up c round                      last voted raised to a round, never lowered
+--     tick_outs c, ticked s                 what a tick writes, and all that it does before the own timeout
 --     TicksTo core ..                       what code did: a tick
---     own_timeout m own s                    the own timeout, from its author check on
---     handled_tick m own s                   TICK
+--     own_timeout m own s                   the own timeout, from its author check on
+--     handled_tick m own s                  TICK
 use Rattle.std.specs.Prelude.{ℕ, ◌+◌, cond, List, [], ◌∷◌, ltb, ◌≡◌}
 use Rattle.certificates.specs.declared.numbers.Signers.{Signers}
 use Rattle.certificates.specs.declared.messages.Checked.{Checked}

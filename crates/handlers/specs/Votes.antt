@@ -1,8 +1,8 @@
 -- 01, Events: VOTE, and the vote for a block. m is the committee, own the own place, s the state.
---     vote_check m current v, handled_vote m own s v    VOTE
---     extends b, may_vote c b                          the voting rules
---     own_vote, voted, voting m own b s                the vote for the block b
---     voting_most                                      the most bytes that the vote for a block writes
+--     vote_check m current v, handled_vote m own s v  VOTE
+--     extends b, may_vote c b                         the voting rules
+--     own_vote, voted, voting m own b s               the vote for the block b
+--     voting_most                                     the most bytes that the vote for a block writes
 use Rattle.std.specs.Prelude.{ℕ, ◌+◌, Bool, true, false, cond, List, ltb, leb, eqb}
 use Rattle.certificates.specs.Config.{stake_of, quorum_of}
 use Rattle.certificates.specs.Leader.{leader_of}

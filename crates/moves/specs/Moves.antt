@@ -1,15 +1,15 @@
 -- 01, Events: what handlers are made of. m is the committee (the members' stakes), own the own place.
---     in_new_round s r                     the round is r, without the tallies below it
+--     in_new_round s r                   the round is r, without the tallies below it
 --     advanced s r                       Advance(r)
 --     raised c q                         the high QC, replaced by one of a greater round
---     taken_qc s q                        taking a QC
+--     taken_qc s q                       taking a QC
 --     leads m own c                      own place leads the round that is now current
---     make_of m own c                     MAKE without a TC, if it does
---     make_with_of m own c r names highs   MAKE with a TC, if it does
+--     make_of m own c                    MAKE without a TC, if it does
+--     make_with_of m own c r names highs  MAKE with a TC, if it does
 --     certified m own s q                what a quorum of votes does
---     tc_outs m own c r names highs       TC, then MAKE with it
---     timed_out m own s r names highs     what a quorum of timeouts does
---     advance_most, certify_most, tc_outs_most, time_out_most      the most bytes that each of them writes
+--     tc_outs m own c r names highs      TC, then MAKE with it
+--     timed_out m own s r names highs    what a quorum of timeouts does
+--     advance_most, certify_most, tc_outs_most, time_out_most  the most bytes that each of them writes
 use Rattle.std.specs.Prelude.{ℕ, ◌+◌, Bool, cond, List, [], ◌∷◌, ltb, eqb}
 use Rattle.certificates.specs.declared.messages.QC.{QC}
 use Rattle.certificates.specs.Leader.{leader_of}

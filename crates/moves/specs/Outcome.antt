@@ -1,6 +1,6 @@
 -- What a handler gives. A `Step` is a state and the records written on the way to it; an `Outcome` is a step with an answer.
 --     quiet s, wrote s r     nothing written; one record written
---     and_then a f            f from the state that a leaves; what it writes comes after
+--     and_then a f           f from the state that a leaves; what it writes comes after
 --     done n a               the answer n, after the step a
 --     after a f              the outcome f, after the step a: what a did stays, whatever f answers (a late refusal)
 --     refused n s            the answer n, and nothing was done: an early refusal, or STALE

@@ -1,6 +1,6 @@
 -- The state that events change: the part that goes by value, and the two tables of tallies.
 --     whole c v t                                  the state of these parts
---     with_votes, with_timeouts, with_core            the state with one part replaced
+--     with_votes, with_timeouts, with_core         the state with one part replaced
 --     in_round, with_voted, with_committed, with_high  the part by value with one field replaced
 use Rattle.std.specs.Prelude.{ℕ, List}
 use Rattle.certificates.specs.declared.messages.QC.{QC}

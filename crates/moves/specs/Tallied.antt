@@ -1,8 +1,8 @@
 -- 01, Events: a vote or a timeout counted in its tally, and what follows. `need` is the quorum.
---     qc_of hash round signers          the QC of these
---     added_number a                    the number of what became of a vote or a timeout
---     after_vote, after_timeout          what follows from the tally's answer
---     vote_tallied, timeout_tallied      the tally, and what follows from it
+--     qc_of hash round signers         the QC of these
+--     added_number a                   the number of what became of a vote or a timeout
+--     after_vote, after_timeout        what follows from the tally's answer
+--     vote_tallied, timeout_tallied    the tally, and what follows from it
 use Rattle.std.specs.Prelude.{ℕ, List}
 use Rattle.certificates.specs.declared.numbers.Hash.{Hash}
 use Rattle.certificates.specs.declared.numbers.Signers.{Signers}

@@ -1,13 +1,13 @@
 -- The replica's record as a host lends it: lists of numbers, and a result as one number.
---     seat_length, core_length, fit     the lengths that the seat and the core must have
+--     seat_length, core_length, fit   the lengths that the seat and the core must have
 --     ready seat core kind            that, and a record that has a form
---     seat_of, core_of                  what they hold
---     seat_numbers, core_numbers        the numbers of a seat and a core
---     Lent, world_of                   all that is lent but the record; the world that it holds
---     packed, written_most             an answer and a count of bytes as one number; the most bytes that an event writes
+--     seat_of, core_of                what they hold
+--     seat_numbers, core_numbers      the numbers of a seat and a core
+--     Lent, world_of                  all that is lent but the record; the world that it holds
+--     packed, written_most            an answer and a count of bytes as one number; the most bytes that an event writes
 --     hosted m r                      one event over what is lent: the result, and what is lent as it is left
---     taken_of                         the bytes of the record at the front of a trace
---     sizes, size_of, room_of           how much to lend
+--     taken_of                        the bytes of the record at the front of a trace
+--     sizes, size_of, room_of         how much to lend
 use Rattle.std.specs.Prelude.{ℕ, ◌+◌, ◌*◌, Bool, false, not, cond, List, [], ◌∷◌, eqb, ltb, length, get_or}
 use Rattle.certificates.specs.Config.{members_max}
 use Rattle.certificates.specs.Error.{bad_record, no_room, not_started}

@@ -1,9 +1,9 @@
 -- The fields of a record and their bytes. 01, The trace form: "All numbers little-endian."
 --     digits w x       the lowest w bytes of x, the lowest first
---     hash_bytes h      the 32 bytes of a hash
+--     hash_bytes h     the 32 bytes of a hash
 --     Field            a number of some width, or a hash
---     field_bytes f     the bytes of a field
---     bytes_of fs       the bytes of several fields, one after the other
+--     field_bytes f    the bytes of a field
+--     bytes_of fs      the bytes of several fields, one after the other
 use Rattle.std.specs.Prelude.{ℕ, zero, suc, ◌/◌, ◌%◌, List, [], ◌∷◌, ◌++◌}
 use Rattle.certificates.specs.declared.numbers.Hash.{Hash}
 

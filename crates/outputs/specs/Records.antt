@@ -1,17 +1,17 @@
 -- The output records and their bytes: 01, The trace form, the table "Out".
 --     Rec                           a record that is written
---     qc_fields q                    a high QC
---     places_from n p w              p and up, for the bits of w that are set, of its lowest n
---     places_of w                    the places of a signer word, in rising order
+--     qc_fields q                   a high QC
+--     places_from n p w             p and up, for the bits of w that are set, of its lowest n
+--     places_of w                   the places of a signer word, in rising order
 --     entries ps highs              the entries of these places in a TC, by the high rounds of all places
---     tc_fields round names highs    the body of a TC
+--     tc_fields round names highs   the body of a TC
 --     framed kind body              a record: its length, its kind, its body
---     kind_of r, body_of r            the two columns of the table
---     fields_of r                    the fields of a record
---     enc r, enc_all rs              the bytes of a record, and of several in a row
---     members_max                    the most members, which is the width of a signer word and the number of high rounds
---     vote_size .. answer_size        the bytes of each record, length field included; where their number varies, the most
---     size_of r                      the bytes of a record
+--     kind_of r, body_of r          the two columns of the table
+--     fields_of r                   the fields of a record
+--     enc r, enc_all rs             the bytes of a record, and of several in a row
+--     members_max                   the most members, which is the width of a signer word and the number of high rounds
+--     vote_size .. answer_size      the bytes of each record, length field included; where their number varies, the most
+--     size_of r                     the bytes of a record
 use Rattle.std.specs.Prelude.{ℕ, zero, suc, ◌+◌, ◌*◌, ◌/◌, ◌%◌, cond, List, [], ◌∷◌, ◌++◌, eqb, length, get_or}
 use Rattle.std.specs.Int.Count.{ones}
 use Rattle.certificates.specs.Config as limits

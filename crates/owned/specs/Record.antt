@@ -1,7 +1,7 @@
 -- The replica record by value. 01: "A replica record handed in ..", "Hash maps become fixed tallies held by value."
---     world_of r t            the world of a record and a table
---     handed_left h t out     what code hands back, with the table and the output that it leaves
---     no_replica              the record of zeros
+--     world_of r t           the world of a record and a table
+--     handed_left h t out    what code hands back, with the table and the output that it leaves
+--     no_replica             the record of zeros
 use Rattle.std.specs.Prelude.{ℕ, List, replicate}
 use Rattle.certificates.specs.Numbers.{zero_hash}
 use Rattle.certificates.specs.Config.{members_max}

@@ -1,9 +1,9 @@
 -- A place in the trace bytes. 01, What changes shape: "a record reader that holds the trace bytes and its place in them".
---     front_at s at         what stands at a place: the front of the bytes from there on, and the end for a place past the end
+--     front_at s at        what stands at a place: the front of the bytes from there on, and the end for a place past the end
 --     behind f at n        the place behind a front at a place, in a trace of n bytes: its end where the run ends
---     next_at s at          the place behind what stands at a place
---     left_at s at          how many bytes are left from a place on: none past the end
---     front_in s at have    what stands at a place of the first have bytes, which are all where there are fewer; the end where at is not below have
+--     next_at s at         the place behind what stands at a place
+--     left_at s at         how many bytes are left from a place on: none past the end
+--     front_in s at have   what stands at a place of the first have bytes, which are all where there are fewer; the end where at is not below have
 use Rattle.std.specs.Prelude.{ℕ, ◌+◌, ◌-◌, List, length, drop}
 use Rattle.trace.specs.Part.{between}
 use Rattle.trace.specs.Record.{split_of}

@@ -1,9 +1,9 @@
 -- 01, Events: PROPOSE and LOOPBACK, which need the table of blocks t.
---     slot_for b                      the block as it is stored
---     work_for b last at              what the table is asked for: the block b, with the last committed round
---     after_settled, processed m own t b s    LOOPBACK's outcome
---     processed_table s t b           and the table that it leaves
---     going_on, going_on_table          PROPOSE, once its first part gave a proposal
+--     slot_for b                     the block as it is stored
+--     work_for b last at             what the table is asked for: the block b, with the last committed round
+--     after_settled, processed m own t b s   LOOPBACK's outcome
+--     processed_table s t b          and the table that it leaves
+--     going_on, going_on_table       PROPOSE, once its first part gave a proposal
 use Rattle.std.specs.Prelude.{ℕ, true, cond, List, eqb}
 use Rattle.certificates.specs.declared.numbers.Round.{Round}
 use Rattle.trace.specs.declared.events.Block.{Block}

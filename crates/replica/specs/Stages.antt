@@ -1,9 +1,9 @@
 -- How the code goes about an event: what needs no block first, then the table, then the vote. `proofs.StageLaws` shows that the three
 -- together are `stepped`.
 --     Stage                     what the first part leaves, and what is to be done with the table (0 nothing, 1 clear it, 2 the block)
---     staged_of w slots room r   the first part
---     work_at                    what the table is asked for
---     finished_of                the last part
+--     staged_of w slots room r  the first part
+--     work_at                   what the table is asked for
+--     finished_of               the last part
 --     together                  the three, as one result
 --     Begins, Finishes          what the code of the two parts did
 use Rattle.std.specs.Prelude.{ℕ, ◌+◌, ◌≤◌, Bool, true, false, cond, List, ◌++◌, ◌≡◌, eqb, length, drop}

@@ -1,9 +1,9 @@
 -- 01, Members: which records that are handed in count as started; and the room that an event needs.
---     members_of seat stakes           the committee: the first `count` stakes
+--     members_of seat stakes          the committee: the first `count` stakes
 --     sized, shaped                   memory of the sizes that a replica has; count and own place within the limits
---     started_of seat stakes v t       the total stake, where the record counts as started
---     slots_max, room_besides              the most slots of a table; the bytes of output besides COMMITs
---     room_for slots, roomy slots room    a table of 1 to 1,024 slots, and room for the output
+--     started_of seat stakes v t      the total stake, where the record counts as started
+--     slots_max, room_besides            the most slots of a table; the bytes of output besides COMMITs
+--     room_for slots, roomy slots room   a table of 1 to 1,024 slots, and room for the output
 use Rattle.std.specs.Prelude.{ℕ, ◌+◌, ◌*◌, Bool, false, cond, List, eqb, ltb, leb, length, take}
 use Rattle.certificates.specs.Config.{members_max, setup_of}
 use Rattle.certificates.specs.declared.config.Setup.{Setup}

@@ -1,7 +1,7 @@
 -- The life of a course. Its moment 0 is START, moment i + 1 the event of its stage i. Assumes nothing.
---     world_at, event_at, result_at r i      the world that event i finds, the event, what it gives
+--     world_at, event_at, result_at r i   the world that event i finds, the event, what it gives
 --     started-at, seat-at, ordered_at, closed_at     what holds of that world
---     life_of r                            the course as a life
+--     life_of r                           the course as a life
 --     careful                             the rules of voting, as far as rounds go
 --     round-rises, vote-in-round, high-rises, timeout-high      and of the round and the high QC
 --     written_at                          what the course writes after START an event of it writes

@@ -1,7 +1,7 @@
 -- Nothing here is vacuous: a committee of four, one of whom breaks the rules, and the courses of the other three, never cut, from bytes. They meet every premise of
 -- `one-digest`, and each delivers a block. By computation.
---     start_bytes, propose_bytes, loopback_bytes, vote_bytes     records
---     run_of p                              the course of place p
+--     start_bytes, propose_bytes, loopback_bytes, vote_bytes  records
+--     run_of p                             the course of place p
 --     outputs0, outputs1, outputs2         all that each of the three writes
 --     four                                 the members, with their courses
 --     certificate1, wider1, certificate2   certificates of rounds 1 and 2 that meet every premise, two of them for one round

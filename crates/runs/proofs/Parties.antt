@@ -1,5 +1,5 @@
 -- The members of a committee as lives: what a member that obeys signed, it signed at a moment of its course, by the rules of voting. Assumes nothing.
---     party_of M                 the members as lives
+--     party_of M                the members as lives
 --     sits, sitting             who obeys
 --     cast, expired             what is signed is signed at a moment
 --     quorum-of                 a quorum of members with stake, as a set of places

@@ -1,5 +1,5 @@
 -- The rounds of what is signed and delivered, from stage to stage: last voted and last committed are marks that the records of a course move up. Assumes nothing.
---     vote_mark r, commit_mark r         what a record does to last voted, and to last committed
+--     vote_mark r, commit_mark r       what a record does to last voted, and to last committed
 --     step-voted, step-committed       one event, from a world that counts as started
 --     next-core, next-started          what a stage leaves, restart included: the part by value of its event, and a world that counts as started
 --     stages-started                   after any stages the world counts as started

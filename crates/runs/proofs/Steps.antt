@@ -1,6 +1,6 @@
 -- One event, from a world that counts as started. Assumes nothing.
---     step_in x                        the state and the records of a result
---     took_by k b                      the round that the high QC has reached when the block b of an event of kind k is voted for
+--     step_in x                       the state and the records of a result
+--     took_by k b                     the round that the high QC has reached when the block b of an event of kind k is voted for
 --     Steps total w r k x             of the record r of kind k: members, stakes, own place and the table's length stay, and the state moves by the laws of `Lawful`
 --     steps-refused, step-lawful      a refusal; any event
 --     Gives w e k x, step_is          an event is refused by 16, 34, 18 or a limit, or gives what its kind k says

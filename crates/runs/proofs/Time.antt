@@ -1,7 +1,7 @@
 -- The stages of a course by number. Past its last stage a course goes on with records that are refused and change nothing, so that every number is a moment. Assumes nothing.
 --     idle, step-idle, idle-bad     such a record, that it changes nothing, and that it is of no kind
 --     at w es i, ev es i, gives     the world that moment i finds, its event, what it gives
---     at-zero, at_next              the first, and the next
+--     at_zero, at_next              the first, and the next
 --     at-past, ev-past              by what came before
 --     Split, split                  and back: a moment has a stage of the course, or is idle
 --     gives-past                    a moment is the same in a course that goes on

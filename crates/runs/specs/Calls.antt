@@ -1,10 +1,10 @@
 -- Calls of the public operation `step`, one after the other, as a host makes them.
 --     Call               what a call was handed, and what it handed back; and whether the unit was unplugged after it, and put back
 --     before c, left c   the same as a world, and as all that the definition speaks of
---     stage_of c          the stage of a course
+--     stage_of c         the stage of a course
 --     Kept c             the contract of `step`, as it stands in the code, was kept
 --     Played w cs        each of the calls cs kept it, the first was handed the world w, and every other one what the one before had left, or had left to be put back
---     laid_all xs os      results laid into buffers
+--     laid_all xs os     results laid into buffers
 --     written cs         the bytes that the calls wrote, in order
 use Rattle.std.specs.Prelude.{ℕ, ◌≤◌, Bool, List, [], ◌∷◌, ◌++◌, ◌≡◌, length, take}
 use Rattle.moves.specs.declared.state.Core.{Core}

@@ -1,19 +1,19 @@
 -- The course of one replica: a START that was taken, and then any events, refused ones too. Each is a step of the definition, from the record and the table that the
 -- one before left. After any of them the replica may be unplugged and put back (02, W3). A run that is never restarted is a course without a cut.
 --     Stage               an event that was saved, and whether a cut came after it
---     put_back w           the replica put back from the image of the world w
+--     put_back w          the replica put back from the image of the world w
 --     leaves s w          the world after a stage whose event left the world w
 --     next w s            the world after the stage s, from the world w on
 --     results w ss        what the event of each of the stages ss gives, from the world w on
---     world_after w ss     the world that they leave
---     outs_of w ss         all that they write, in order
+--     world_after w ss    the world that they leave
+--     outs_of w ss        all that they write, in order
 --     Course              a course; `stages` of it are those after START
 --     origin, end, outputs c    the world that START left, the world at the end, all that is written
 --     uncut es            events after none of which there is a cut
 --     Moment c            a stage of the course c, with what came before it
---     up_to c ss           the course c as far as the stages ss
---     event_at, found_at, given_at m     its event, the world that the event finds, what it gives
---     bytes_at, kind_at, block_at m      the event's bytes, its kind, and the block in them where its kind has one
+--     up_to c ss          the course c as far as the stages ss
+--     event_at, found_at, given_at m  its event, the world that the event finds, what it gives
+--     bytes_at, kind_at, block_at m   the event's bytes, its kind, and the block in them where its kind has one
 -- An event that was not saved left nothing, and stands in no course. The TIMER RESET of a restart is left out.
 use Rattle.std.specs.Prelude.{ℕ, Bool, false, cond, List, [], ◌∷◌, ◌++◌, ◌≡◌, replicate}
 use Rattle.trace.specs.declared.events.Kind.{Kind}

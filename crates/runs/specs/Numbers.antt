@@ -1,6 +1,6 @@
 -- 01, "Numbers the host sees", its column "Kept".
 --     keeping        the numbers with which an event may have changed something
---     may_keep n      n is one of them; with any other an event has changed nothing, and written nothing
+--     may_keep n     n is one of them; with any other an event has changed nothing, and written nothing
 use Rattle.std.specs.Prelude.{ℕ, Bool, List, [], ◌∷◌}
 use Rattle.certificates.specs.Signers.{member}
 use Rattle.certificates.specs.Error.{done, wait_parent, wait_payload, unknown_authority, authority_reuse, invalid_payload, table_full, tallies_full, ancestor_absent, round_not_below}

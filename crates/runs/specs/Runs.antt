@@ -1,13 +1,13 @@
 -- One event of a replica, and the records that are written. What a replica does from its START on is in `Courses`.
 --     Event              the bytes of a record, and the room that is lent for its output
---     step_on w e         one event
+--     step_on w e        one event
 --     Begun w e          the event e is a START that was taken
 --     Written a rs       the record a stands in the list rs
 --     Behind a b rs      in the list rs the record b stands behind the record a
 --     only p rs          the records of a list that pass the test p, in order
---     signed_in rs        the VOTEs and TIMEOUTs of a list, in order (is_signed)
---     delivered_in rs     its COMMITs (is_commit)
---     round_of, voted_of, committed_of, high_of w    a world's round, last voted and last committed round, and the round of its high QC
+--     signed_in rs       the VOTEs and TIMEOUTs of a list, in order (is_signed)
+--     delivered_in rs    its COMMITs (is_commit)
+--     round_of, voted_of, committed_of, high_of w  a world's round, last voted and last committed round, and the round of its high QC
 use Rattle.std.specs.Prelude.{ℕ, Bool, true, false, cond, List, [], ◌∷◌, ◌++◌, ◌≡◌}
 use Rattle.trace.specs.declared.events.Kind.{Kind}
 use Rattle.trace.specs.Form.{form_of}

@@ -1,6 +1,6 @@
 -- The members of one committee: their courses, what each signed, and what the results of signature checks may be trusted for. And certificates laid out as bytes.
---     qc_bytes q                   a QC laid out as a certificate whose result is yes
---     tc_bytes round names highs   a TC likewise
+--     qc_bytes q                  a QC laid out as a certificate whose result is yes
+--     tc_bytes round names highs  a TC likewise
 --     GoodQC m q                  laid out so, it is accepted by the committee m inside a block or a timeout
 --     GoodTC m round names highs  .. and a TC
 --     Sends m a                   the certificates in the record a are good

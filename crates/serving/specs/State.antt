@@ -1,21 +1,21 @@
 -- A run by value (`Serving`), and what the functions of `state` make of it.
 --     write, file, part                   what is done with the output: the numbers of `mode`
---     going, ended, not_read, not_written, differs, no_room    why a run ended: the numbers of `why`
+--     going, ended, not_read, not_written, differs, no_room  why a run ended: the numbers of `why`
 --     slots                               the slots of the table
---     turns_max                            the turns that a run may take
+--     turns_max                           the turns that a run may take
 --     idle                                a replica that was not started, and nothing read
---     fresh_of m left due                  a run at its beginning
---     state_of s run left due held place turns why    s with the parts that change
---     ended_by s w                         the run is over; the larger number stands
---     passed_by s t                        a turn is over, and left t
---     run_of g a h                         g with another unread part of the buffer
---     filled_by s n, gained_by s n          n bytes stand unread at the front of the buffer; n more were read behind
---     brought_by s g                       what a read makes of a run
---     allowed, rest_of mode limit n        of a PART no more than its limit; and its limit after n bytes
---     met_by s n                           n bytes of what is expected were read
---     held_by s n, further_by s n           n bytes wait in the pack; the output is n bytes further on
---     judged_by s got same n               of n bytes of output `same` are those expected, and `got` were read to see that
---     told_of s                            what a program is told
+--     fresh_of m left due                 a run at its beginning
+--     state_of s run left due held place turns why   s with the parts that change
+--     ended_by s w                        the run is over; the larger number stands
+--     passed_by s t                       a turn is over, and left t
+--     run_of g a h                        g with another unread part of the buffer
+--     filled_by s n, gained_by s n        n bytes stand unread at the front of the buffer; n more were read behind
+--     brought_by s g                      what a read makes of a run
+--     allowed, rest_of mode limit n       of a PART no more than its limit; and its limit after n bytes
+--     met_by s n                          n bytes of what is expected were read
+--     held_by s n, further_by s n         n bytes wait in the pack; the output is n bytes further on
+--     judged_by s got same n              of n bytes of output `same` are those expected, and `got` were read to see that
+--     told_of s                           what a program is told
 use Rattle.std.specs.Prelude.{ℕ, ◌+◌, ◌-◌, ◌^◌, cond, eqb, leb, ltb}
 use Rattle.certificates.specs.Numbers.{zero_hash}
 use Rattle.turns.specs.declared.turn.Run.{Run}

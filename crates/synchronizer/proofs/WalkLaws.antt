@@ -6,7 +6,7 @@
 --     walk-rises, commit-rising     the rounds of what is delivered rise from above the last committed one to that of the start
 --     commit-size, commit-chain, commit-genesis     the same of a commit; genesis is never committed
 --     commit-never-waits   a commit does not answer WAIT PARENT
---     meant_by, Sound, height_of      what a trail comes to, what holds of it, and a number that falls
+--     meant_by, Sound, height_of    what a trail comes to, what holds of it, and a number that falls
 --     count-.., sound-.., height-..     the start of a count, and one parent more
 --     above-.., set-out-.., walk-..     the ways out of the functions on values
 -- Assumes nothing.

@@ -1,6 +1,6 @@
 -- 01, Numbers the host sees, the column "Kept": what is kept of a block that comes to the table of blocks t, a row for each answer. w is what the table is
 -- asked for. A row says the answer, the table, last committed and the records written, so what is not in it did not happen.
---     waiting, no_place, no_b0, stopped_by n, linked      the rows
+--     waiting, no_place, no_b0, stopped_by n, linked   the rows
 --     Keeps t w p                                      p is one of them
 use Rattle.std.specs.Prelude.{ℕ, List, [], ◌∷◌, ◌⊎◌, ◌≡◌}
 use Rattle.certificates.specs.Error.{wait_parent, table_full, ancestor_absent, round_not_below}

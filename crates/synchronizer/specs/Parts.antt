@@ -1,15 +1,15 @@
 -- What the functions on values answer: the steps that code takes to the definitions of `Table`, `Walk` and `Settle`. No law of the meaning cites this file.
---     want_parent b, parent_by b s     what is looked for to find the parent of b, and the parent, from the slot s that was found
+--     want_parent b, parent_by b s   what is looked for to find the parent of b, and the parent, from the slot s that was found
 --     placed found free n            a block's place, from the place of its digest and the lowest free one
 --     stopped, walking               a trail that is over; one with a block more, which goes on where that is above last committed + 1
---     set_out b last, walk_on u p      the start of a trail, and a trail after one parent more
---     count_of c                      the number of blocks that a commit delivers
+--     set_out b last, walk_on u p    the start of a trail, and a trail after one parent more
+--     count_of c                     the number of blocks that a commit delivers
 --     Admits t b r t'                a block's ancestors and its store
---     to_commit a                     the block that is committed
---     committed_of t w a              what follows the store, a saying whether there was one
+--     to_commit a                    the block that is committed
+--     committed_of t w a             what follows the store, a saying whether there was one
 --     CommitsFit t w a k             what is then written has room in k bytes
 --     Heads w a c before r after     what is written before the COMMITs
---     settled_by w a c t              how a block is settled, from its count and the chain of its COMMITs
+--     settled_by w a c t             how a block is settled, from its count and the chain of its COMMITs
 --     RoomToAsk s k                  k bytes have room for SYNC where the settlement s waits for a parent
 --     Asks w s before r after        SYNC behind a settlement s that waits
 use Rattle.std.specs.Prelude.{◌≡◌, ℕ, ◌+◌, ◌*◌, ◌≤◌, true, false, cond, List, [], ltb, eqb, length}

@@ -1,16 +1,16 @@
 -- 01, START and LOOPBACK up to the vote: what an event does with the block table.
 --     Settlement             the answer, the table, the last committed round, and the records that are written
---     is_two_chain b0 b1       b0.round+1 = b1.round
---     clean_of b0 b1 b        what is written once the block b is stored, before the COMMITs
---     commit_if t b0 b1 l     the commit of b0 where b1 follows it, l being the last committed round
---     commit_rec b            the COMMIT of a block
---     linked_of t b b0 b1 l   a block b that is stored, with its ancestors b1 and b0
---     processed_of t w        a block, before its caller asks for a parent
---     wait_of w n             what is written where a block was answered n
+--     is_two_chain b0 b1     b0.round+1 = b1.round
+--     clean_of b0 b1 b       what is written once the block b is stored, before the COMMITs
+--     commit_if t b0 b1 l    the commit of b0 where b1 follows it, l being the last committed round
+--     commit_rec b           the COMMIT of a block
+--     linked_of t b b0 b1 l  a block b that is stored, with its ancestors b1 and b0
+--     processed_of t w       a block, before its caller asks for a parent
+--     wait_of w n            what is written where a block was answered n
 --     asking w s             a block's settlement s, and what is written where it waits
 --     nothing, clear, block  what an event does: the numbers of `does`
---     settled_of t w          an event
---     clean_most, settle_most n    the most bytes that are written before the COMMITs, and over a table of n slots
+--     settled_of t w         an event
+--     clean_most, settle_most n  the most bytes that are written before the COMMITs, and over a table of n slots
 --     RoomFor w n k          a buffer of k bytes has room for what is written over a table of n slots
 --     Settles d k before at r table after    code did what the settlement d says, in at most k bytes
 use Rattle.std.specs.Prelude.{◌≡◌, ℕ, ◌+◌, ◌*◌, ◌≤◌, Bool, cond, List, [], ◌∷◌, ◌++◌, map, eqb, ltb, length}

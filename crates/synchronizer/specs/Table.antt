@@ -1,17 +1,17 @@
 -- 01, the block table as a list of slots, and a block's ancestors in it.
 --     blank                  a slot that holds nothing: all zeros
---     slot_at t i             the slot at place i, and the blank one past the end
---     want_any, want_free, want_digest h     what is looked for: any slot, a free one, a used one with the digest h
+--     slot_at t i            the slot at place i, and the blank one past the end
+--     want_any, want_free, want_digest h  what is looked for: any slot, a free one, a used one with the digest h
 --     fits s w               whether the slot s is one that is looked for
 --     lowest t w             the place of the lowest slot that fits, and the length of t where none does
---     place_of t b            where the block b is stored, and past the end where there is no place
+--     place_of t b           where the block b is stored, and past the end where there is no place
 --     stored t b             the table once b is stored, and t where there is no place
---     store_answer i n        what a store at place i of n slots answers
+--     store_answer i n       what a store at place i of n slots answers
 --     cleared t              t with every slot blank
 --     genesis                the genesis block
---     found_at t i            the slot that was found at place i, and none past the end
---     parent_of t b           the parent of the block b
---     ancestors_of t b        the parent b1 and the grandparent b0 of the block b
+--     found_at t i           the slot that was found at place i, and none past the end
+--     parent_of t b          the parent of the block b
+--     ancestors_of t b       the parent b1 and the grandparent b0 of the block b
 use Rattle.std.specs.Prelude.{ℕ, suc, Bool, true, false, not, cond, List, [], ◌∷◌, ltb, length, get_or, set, replicate}
 use Rattle.certificates.specs.declared.numbers.Hash.{Hash}
 use Rattle.certificates.specs.Numbers.{zero_hash, same_hash}

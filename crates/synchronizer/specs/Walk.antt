@@ -1,12 +1,12 @@
 -- 01, Commit (corrected): the walk from a block to the last committed one.
 --     Walk                      a refusal, or the blocks that are delivered, oldest first
---     and_newer w b              the walk w, and then the block b
---     on_parent b last p w       the walk from b whose parent is p, w being the walk from p
---     walk_from n t b last       the walk from b, of at most n blocks
---     walk_of t b last           the walk from b: its budget never runs out (`walk_step` of proofs/WalkLaws.antt)
+--     and_newer w b             the walk w, and then the block b
+--     on_parent b last p w      the walk from b whose parent is p, w being the walk from p
+--     walk_from n t b last      the walk from b, of at most n blocks
+--     walk_of t b last          the walk from b: its budget never runs out (`walk_step` of proofs/WalkLaws.antt)
 --     Commit                    what a commit brings: the answer, the last committed round, the blocks that are delivered
---     commit_of t b last         a commit of the block b
---     chain_of n t b             n blocks, b and its ancestors, oldest first
+--     commit_of t b last        a commit of the block b
+--     chain_of n t b            n blocks, b and its ancestors, oldest first
 use Rattle.std.specs.Prelude.{ℕ, zero, suc, ◌+◌, cond, List, [], ◌∷◌, ◌++◌, ltb, length}
 use Rattle.synchronizer.specs.declared.table.Slot.{Slot}
 use Rattle.synchronizer.specs.declared.ancestors.Parent.{Parent}

@@ -1,6 +1,6 @@
 -- 01, The trace form: the fields of an event, in the table's order.
---     vote_of r, timeout_of r, block_of r      of a VOTE, of a TIMEOUT, and of a PROPOSE or LOOPBACK
---     tc_round_of, tc_high_of r at              round and largest high round of the TC that starts at a place; 0 where the place is 0, for no TC
+--     vote_of r, timeout_of r, block_of r   of a VOTE, of a TIMEOUT, and of a PROPOSE or LOOPBACK
+--     tc_round_of, tc_high_of r at          round and largest high round of the TC that starts at a place; 0 where the place is 0, for no TC
 use Rattle.std.specs.Prelude.{ℕ, cond, List, get_or, eqb}
 use Rattle.certificates.specs.Num.{num_at, hash_at}
 use Rattle.trace.specs.Layout.{qc_round, tc_round, tc_part, block_qc, timeout_qc, tc_at, largest_high}

@@ -1,13 +1,13 @@
 -- 01, The trace form: the table of events, and the records that get 16.
---     kind_of k            "The two-byte kind decides among seven event kinds."
---     size_of r k          how many bytes a record of the kind has, by its counts
---     block_marks r        the verdicts and the flag of a block
---     marks_of r k         the verdicts and flags of a record of the kind
---     payloads_of r k      its payload verdict, if any
---     any_above m xs       whether one of some numbers is above m
---     are_marks r          whether the verdicts and the flag of a block are 0 or 1
---     is_formed r k        whether a record has the form of the kind
---     form_of r            the kind of a record that has the form of its kind, and Bad for any other
+--     kind_of k           "The two-byte kind decides among seven event kinds."
+--     size_of r k         how many bytes a record of the kind has, by its counts
+--     block_marks r       the verdicts and the flag of a block
+--     marks_of r k        the verdicts and flags of a record of the kind
+--     payloads_of r k     its payload verdict, if any
+--     any_above m xs      whether one of some numbers is above m
+--     are_marks r         whether the verdicts and the flag of a block are 0 or 1
+--     is_formed r k       whether a record has the form of the kind
+--     form_of r           the kind of a record that has the form of its kind, and Bad for any other
 use Rattle.std.specs.Prelude.{ℕ, ◌+◌, ◌*◌, Bool, true, false, not, cond, List, [], ◌∷◌, length, get_or, ltb, eqb}
 use Rattle.certificates.specs.Num.{num_at}
 use Rattle.trace.specs.Record.{record_max}

@@ -1,17 +1,17 @@
 -- 01, The trace form: "Parts." A record here is what follows the length: kind 2, then the body. What a record does not have reads as 0.
---     signers_max                                          the most signers of a list
---     qc_round, qc_verdict, qc_count, qc_size, qc_part r at    of the QC that starts at a place of the record r
---     tc_round, tc_verdict, tc_count, tc_size, tc_part r at    of the TC that starts there
---     place_in, high_in t i                                 place and high round of entry i of the TC t
---     highs_in t n                                         the high rounds of the first n entries, the last one first
---     tc_rounds r at                                       every round of the TC that starts at a place of the record
---     timeout_qc, tc_body                                   where the QC of a TIMEOUT and the TC of a TC event start
---     block_qc, flag_at r, tc_at r, block_end r               of a record that holds a block: where its QC, flag and TC start (0 without a TC), and where it ends
---     payload_of r                                         the last byte
+--     signers_max                                         the most signers of a list
+--     qc_round, qc_verdict, qc_count, qc_size, qc_part r at  of the QC that starts at a place of the record r
+--     tc_round, tc_verdict, tc_count, tc_size, tc_part r at  of the TC that starts there
+--     place_in, high_in t i                               place and high round of entry i of the TC t
+--     highs_in t n                                        the high rounds of the first n entries, the last one first
+--     tc_rounds r at                                      every round of the TC that starts at a place of the record
+--     timeout_qc, tc_body                                 where the QC of a TIMEOUT and the TC of a TC event start
+--     block_qc, flag_at r, tc_at r, block_end r           of a record that holds a block: where its QC, flag and TC start (0 without a TC), and where it ends
+--     payload_of r                                        the last byte
 --     largest xs                                          the largest of some numbers; 0 of none
---     largest_high t                                       the largest high round over all entries of a TC
---     highs_of t                                           the high round of each place, 0 for one without an entry
---     highs_up_to t n                                       .. by the first n entries
+--     largest_high t                                      the largest high round over all entries of a TC
+--     highs_of t                                          the high round of each place, 0 for one without an entry
+--     highs_up_to t n                                     .. by the first n entries
 use Rattle.std.specs.Prelude.{ℕ, zero, suc, max, ◌+◌, ◌-◌, ◌*◌, cond, List, [], ◌∷◌, length, get_or, take, drop, set, replicate, eqb}
 use Rattle.certificates.specs.Config as limits
 use Rattle.certificates.specs.Num.{num_at}

@@ -1,9 +1,9 @@
 -- 01, Numbers the host sees: 32, 20 and 19, in this order.
---     block_counts r, counts_of r k      the counts of the signer lists of a block, of a record of the kind
---     block_rounds r, rounds_of r k      every round field of a block, of a record of the kind
---     empty_tc r k                      "LOOPBACK with an empty TC"
+--     block_counts r, counts_of r k    the counts of the signer lists of a block, of a record of the kind
+--     block_rounds r, rounds_of r k    every round field of a block, of a record of the kind
+--     empty_tc r k                     "LOOPBACK with an empty TC"
 --     bounded c x                      20 if a list of c signers is too long, else 19 if the round x is too high, else 0
---     limit_of r k                      the number that the record gets by its limits; 0 for one within them
+--     limit_of r k                     the number that the record gets by its limits; 0 for one within them
 use Rattle.std.specs.Prelude.{ℕ, Bool, false, cond, List, [], ◌∷◌, ltb, eqb}
 use Rattle.certificates.specs.Num.{num_at}
 use Rattle.certificates.specs.Numbers.{round_max}

@@ -1,9 +1,9 @@
 -- 01, The trace form: "A record is a two-byte length (bytes after it), a two-byte kind, a body. Length is 2 to 4,096."
---     record_max           the most bytes that a record has after its length
+--     record_max          the most bytes that a record has after its length
 --     framed s n          the front of a trace whose length field says n
---     split_of s           what stands at the front of a trace
---     record_of front s    the kind and the body of the record at the front of s; of one too small for a kind, the bytes there are
---     rest_of front s      "Taking one record off hands back the unread rest of the caller's buffer."
+--     split_of s          what stands at the front of a trace
+--     record_of front s   the kind and the body of the record at the front of s; of one too small for a kind, the bytes there are
+--     rest_of front s     "Taking one record off hands back the unread rest of the caller's buffer."
 use Rattle.std.specs.Prelude.{ℕ, ◌+◌, cond, List, [], length, drop, ltb}
 use Rattle.certificates.specs.Num.{num_at}
 use Rattle.trace.specs.Part.{between}

@@ -3,7 +3,7 @@
 --     cut-long, cut-more                              what is met where the front is cut
 --     ahead-end, ahead-cut, ahead_small, ahead-record what is met, and where the record lies
 --     small-within, record-within                     a record ends in what was read
---     taken_by f, ahead-to                             the bytes that are taken, and that the next record starts behind them
+--     taken_by f, ahead-to                            the bytes that are taken, and that the next record starts behind them
 --     ahead-record-is                                 the record that the replica is asked for
 -- Assumes nothing.
 use Prim.Native.Nat.{ℕ, ◌+◌, ◌-◌, ◌≤◌, ◌<◌}

@@ -1,9 +1,9 @@
 -- How the code goes about a turn: what stands at the front, an event, and the ANSWER. `proofs.TurnLaws` shows that the three together are
 -- `turned`.
---     cut_met s                  what is met where the front s is cut
---     none_at met at, one_at at end       no record; a record that ends `end` bytes after `at`
---     ahead_by f at s, ahead_of at s      what is met, and where the record lies, in a buffer in which the front s begins at `at`
---     order_at run ahead        the event that the replica is asked for
+--     cut_met s                 what is met where the front s is cut
+--     none_at met at, one_at at end     no record; a record that ends `end` bytes after `at`
+--     ahead_by f at s, ahead_of at s    what is met, and where the record lies, in a buffer in which the front s begins at `at`
+--     order_at run ahead       the event that the replica is asked for
 --     closing met x room        the ANSWER that is written behind what an event wrote
 --     Closes                    what the code did that writes it
 use Rattle.std.specs.Prelude.{ℕ, ◌+◌, cond, List, [], ◌∷◌, ◌≡◌, eqb, leb, length}

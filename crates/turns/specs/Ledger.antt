@@ -1,8 +1,8 @@
 -- The output records of a whole trace: 01, The trace form.
---     event_at w room s          the event at the front of a trace s, of a replica in the world w whose output has `room` bytes
---     by_front f x rs            the records of a trace with f at its front, x the event there and rs the records of what follows
---     ledger_in n w room s       the records of a trace, of n events at most
---     ledger_of w room s         the records of a trace. An event takes 2 bytes or more, so that as many events as there are bytes are enough
+--     event_at w room s         the event at the front of a trace s, of a replica in the world w whose output has `room` bytes
+--     by_front f x rs           the records of a trace with f at its front, x the event there and rs the records of what follows
+--     ledger_in n w room s      the records of a trace, of n events at most
+--     ledger_of w room s        the records of a trace. An event takes 2 bytes or more, so that as many events as there are bytes are enough
 use Rattle.std.specs.Prelude.{ℕ, zero, suc, List, [], ◌∷◌, ◌++◌, length}
 use Rattle.certificates.specs.Error.{bad_record}
 use Rattle.trace.specs.Record.{split_of, record_of, rest_of}

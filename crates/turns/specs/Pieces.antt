@@ -1,9 +1,9 @@
 -- A trace that is read in pieces: turns until there is no whole record at the front, then the next piece.
 --     Played                    whether the run is over, the world that is left, what was read and not taken, the records that were written
 --     onward t s y              a turn t at the front of s, and then y
---     played_in n w room s       turns at the front of s, n at most
---     played_of w room s         turns until there is no whole record. A record takes 2 bytes or more, so that as many turns as there are bytes are enough
---     fed_of w room s ps         what is written where s is left of what was read and the pieces ps are still to come
+--     played_in n w room s      turns at the front of s, n at most
+--     played_of w room s        turns until there is no whole record. A record takes 2 bytes or more, so that as many turns as there are bytes are enough
+--     fed_of w room s ps        what is written where s is left of what was read and the pieces ps are still to come
 use Rattle.std.specs.Prelude.{ℕ, zero, suc, Bool, false, cond, List, [], ◌∷◌, ◌++◌, eqb, length, drop}
 use Rattle.certificates.specs.Error.{bad_record}
 use Rattle.outputs.specs.Records.{Rec, answer}

@@ -1,13 +1,13 @@
 -- One turn of a run, from the bytes at the front of what was read. 01, The trace form: "A record is a two-byte length (bytes after it), a
 -- two-byte kind, a body.", "Taking one record off hands back the unread rest of the caller's buffer."
---     answered, more, too_long       what a turn meets: a record; no whole record; a length above the most
---     is_too_long s                   whether the length at the front of s is above the most
---     answers_in room outs n         the ANSWER behind these outputs, in an output of `room` bytes
+--     answered, more, too_long      what a turn meets: a record; no whole record; a length above the most
+--     is_too_long s                 whether the length at the front of s is above the most
+--     answers_in room outs n        the ANSWER behind these outputs, in an output of `room` bytes
 --     Turning                       what is met, the world that is left, the bytes that are taken, the records that are written
 --     waiting w, taking end room x            a turn that finds no whole record; one that takes a record of which the replica made x
---     turned_by f w room s, turned w room s    a turn, where f stands at the front of s
---     Left, laid_in x at have out    a turn laid into a buffer: the run, and every byte of the output
---     left_by                        what code hands back
+--     turned_by f w room s, turned w room s   a turn, where f stands at the front of s
+--     Left, laid_in x at have out   a turn laid into a buffer: the run, and every byte of the output
+--     left_by                       what code hands back
 use Rattle.std.specs.Prelude.{ℕ, ◌+◌, Bool, cond, List, [], ◌∷◌, ◌++◌, ltb, leb, length, drop}
 use Rattle.certificates.specs.Num.{num_at}
 use Rattle.certificates.specs.Error.{bad_record}
