@@ -1,10 +1,11 @@
 // TIMEOUT, TC and TICK: handle_timeout, handle_tc, local_timeout_round.
 ghost use Rattle.std.specs.Prelude.{◌≡◌, ◌+◌, ◌≤◌, ◌<◌, length};
-ghost use Rattle.certificates.specs.Config.{quorum_of};
+ghost use Rattle.certificates.specs.Config.{stake_of, quorum_of};
 ghost use Rattle.certificates.specs.Numbers.{round_max};
 ghost use Rattle.moves.specs.State.{whole};
 ghost use Rattle.moves.specs.Outcome.{Did, Reached};
 ghost use Rattle.moves.specs.Moves.{time_out_most};
+ghost use Rattle.moves.specs.Tallied.{timeout_tallied};
 ghost use Rattle.handlers.specs.Sound.{Sound};
 ghost use Rattle.handlers.specs.Timeouts.{timeout_check, timeout_taken, handled_timeout, tc_taken, handled_tc, voted_up, TicksTo, own_timeout, handled_tick};
 ghost use Rattle.handlers.specs.Timeouts.{handle_timeout_most, handle_tc_most, tick_most, local_timeout_most};
@@ -33,8 +34,44 @@ fn timeout_check(members: &[u32], current: Round, t: Timeout) -> u16
     author_number(check_author(members, t.author, t.verdict))
 }
 
-// The QC is taken; then the tally by round. The state is handed on only at the quorum, so that no
-// other timeout copies it.
+// A timeout of a member counted in its tally; at the quorum its TC is written and taken. The state is
+// handed on only at the quorum, so that no other timeout copies it.
+fn count_timeout(
+    members: &[u32],
+    own: Place,
+    need: Stake,
+    core: Core,
+    votes: &mut [u64],
+    timeouts: &mut [u64],
+    out: &mut [u8],
+    at: usize,
+    round: Round,
+    author: Place,
+    high: Round,
+) -> Ran
+    requires { Sound members.now own.0 votes.old timeouts.old × (author.0 < length members.now) × (round.0 ≤ round_max) × (at + time_out_most ≤ length out.old) }
+    ensures { Reached time_out_most (timeout_tallied members.now own.0 need.0 (whole core votes.old timeouts.old) round.0 author.0 (stake_of members.now author.0) high.0) out.old at result votes.new timeouts.new out.new }
+{
+    let held = stake(members, author);
+    let a = add_timeout(timeouts, round, author, held, need, high);
+    if let Added::Full(i, names) = a {
+        let m = time_out(
+            members, own, core, votes, timeouts, out, at, round, i, names,
+        );
+        return Ran {
+            answer: DONE,
+            core: m.core,
+            at: m.at,
+        };
+    }
+    Ran {
+        answer: added_number(a),
+        core,
+        at,
+    }
+}
+
+// The QC is taken; then the timeout is counted.
 fn take_timeout(
     members: &[u32],
     own: Place,
@@ -49,33 +86,15 @@ fn take_timeout(
     requires { Sound members.now own.0 votes.old timeouts.old × (need.0 ≡ quorum_of members.now) × (t.author.0 < length members.now) × (t.round.0 ≤ round_max) × (t.qc_round.0 ≤ round_max) × (handle_timeout_most ≤ length out.old) }
     ensures { Reached handle_timeout_most (timeout_taken members.now own.0 (whole core votes.old timeouts.old) t signers) out.old 0 result votes.new timeouts.new out.new }
 {
-    let hash = t.qc_hash;
-    let round = t.qc_round;
     let qc = QC {
-        hash,
-        round,
+        hash: t.qc_hash,
+        round: t.qc_round,
         signers,
     };
     let a = process_qc(core, votes, timeouts, out, 0, qc);
-    let held = stake(members, t.author);
-    let x = add_timeout(timeouts, t.round, t.author, held, need, qc.round);
-    if let Added::Full(i, names) = x {
-        let m = time_out(
-            members, own, a.core, votes, timeouts, out, a.at, t.round, i, names,
-        );
-        let n = m.core;
-        return Ran {
-            answer: DONE,
-            core: n,
-            at: m.at,
-        };
-    }
-    let n = a.core;
-    Ran {
-        answer: added_number(x),
-        core: n,
-        at: a.at,
-    }
+    count_timeout(
+        members, own, need, a.core, votes, timeouts, out, a.at, t.round, t.author, qc.round,
+    )
 }
 
 // t is what the record says; its QC is checked where it lies.
@@ -221,24 +240,19 @@ fn own_timeout(
             at,
         };
     }
-    let held = stake(members, own);
-    let a = add_timeout(timeouts, core.round, own, held, need, core.high_qc.round);
-    if let Added::Full(i, names) = a {
-        let m = time_out(
-            members, own, core, votes, timeouts, out, at, core.round, i, names,
-        );
-        let n = m.core;
-        return Ran {
-            answer: DONE,
-            core: n,
-            at: m.at,
-        };
-    }
-    Ran {
-        answer: added_number(a),
+    count_timeout(
+        members,
+        own,
+        need,
         core,
+        votes,
+        timeouts,
+        out,
         at,
-    }
+        core.round,
+        own,
+        core.high_qc.round,
+    )
 }
 
 pub fn local_timeout_round(

@@ -1,10 +1,11 @@
 // VOTE, and the vote for a block: handle_vote, make_vote.
-ghost use Rattle.std.specs.Prelude.{◌≡◌, ◌+◌, ◌≤◌, length};
-ghost use Rattle.certificates.specs.Config.{quorum_of};
+ghost use Rattle.std.specs.Prelude.{◌≡◌, ◌+◌, ◌≤◌, ◌<◌, length};
+ghost use Rattle.certificates.specs.Config.{stake_of, quorum_of};
 ghost use Rattle.certificates.specs.Numbers.{round_max};
 ghost use Rattle.moves.specs.State.{whole};
 ghost use Rattle.moves.specs.Outcome.{Reached};
 ghost use Rattle.moves.specs.Moves.{certify_most};
+ghost use Rattle.moves.specs.Tallied.{vote_tallied};
 ghost use Rattle.handlers.specs.Sound.{Sound};
 ghost use Rattle.handlers.specs.Votes.{vote_check, handled_vote, extends, may_vote, own_vote, voted, voting, voting_most};
 
@@ -14,7 +15,7 @@ use certificates::config::stake;
 use certificates::error::{DONE, STALE, author_number};
 use certificates::leader::get_leader;
 use certificates::messages::{QC, check_author};
-use certificates::numbers::{Place, Round, Stake};
+use certificates::numbers::{Hash, Place, Round, Stake};
 use moves::rounds::certify;
 use moves::state::{Core, Ran};
 use moves::tallies::added_number;
@@ -31,9 +32,48 @@ fn vote_check(members: &[u32], current: Round, v: Vote) -> u16
     author_number(check_author(members, v.author, v.verdict))
 }
 
-// A vote that passes the checks is counted, and at the quorum its QC is taken. Any other is
-// answered by their number, and leaves everything as it was. The state is handed on only at the
-// quorum, so that no other vote copies it.
+// A vote of a member counted in its tally; at the quorum its QC is taken. The state is handed on only
+// at the quorum, so that no other vote copies it.
+fn count_vote(
+    members: &[u32],
+    own: Place,
+    need: Stake,
+    core: Core,
+    votes: &mut [u64],
+    timeouts: &mut [u64],
+    out: &mut [u8],
+    at: usize,
+    hash: Hash,
+    round: Round,
+    author: Place,
+) -> Ran
+    requires { Sound members.now own.0 votes.old timeouts.old × (author.0 < length members.now) × (round.0 ≤ round_max) × (at + certify_most ≤ length out.old) }
+    ensures { Reached certify_most (vote_tallied members.now own.0 need.0 (whole core votes.old timeouts.old) hash round.0 author.0 (stake_of members.now author.0)) out.old at result votes.new timeouts.new out.new }
+{
+    let held = stake(members, author);
+    let a = add_vote(votes, round, hash, author, held, need);
+    if let Added::Full(_, signers) = a {
+        let qc = QC {
+            hash,
+            round,
+            signers,
+        };
+        let m = certify(members, own, core, votes, timeouts, out, at, qc);
+        return Ran {
+            answer: DONE,
+            core: m.core,
+            at: m.at,
+        };
+    }
+    Ran {
+        answer: added_number(a),
+        core,
+        at,
+    }
+}
+
+// A vote that passes the checks is counted. Any other is answered by their number, and leaves
+// everything as it was.
 pub fn handle_vote(
     members: &[u32],
     own: Place,
@@ -55,29 +95,9 @@ pub fn handle_vote(
             at: 0,
         };
     }
-    let held = stake(members, v.author);
-    let hash = v.hash;
-    let round = v.round;
-    let a = add_vote(votes, round, hash, v.author, held, need);
-    if let Added::Full(_, signers) = a {
-        let qc = QC {
-            hash,
-            round,
-            signers,
-        };
-        let m = certify(members, own, core, votes, timeouts, out, 0, qc);
-        let n = m.core;
-        return Ran {
-            answer: DONE,
-            core: n,
-            at: m.at,
-        };
-    }
-    Ran {
-        answer: added_number(a),
-        core,
-        at: 0,
-    }
+    count_vote(
+        members, own, need, core, votes, timeouts, out, 0, v.hash, v.round, v.author,
+    )
 }
 
 // The block extends its QC's round, or a TC's whose high rounds are not above the QC's.
@@ -131,29 +151,9 @@ fn own_vote(
             at,
         };
     }
-    let held = stake(members, own);
-    let hash = b.digest;
-    let round = b.round;
-    let a = add_vote(votes, round, hash, own, held, need);
-    if let Added::Full(_, signers) = a {
-        let qc = QC {
-            hash,
-            round,
-            signers,
-        };
-        let m = certify(members, own, core, votes, timeouts, out, at, qc);
-        let n = m.core;
-        return Ran {
-            answer: DONE,
-            core: n,
-            at: m.at,
-        };
-    }
-    Ran {
-        answer: added_number(a),
-        core,
-        at,
-    }
+    count_vote(
+        members, own, need, core, votes, timeouts, out, at, b.digest, b.round, own,
+    )
 }
 
 // Last voted becomes the block's round, and VOTE is written to the next round's leader. Where that is
