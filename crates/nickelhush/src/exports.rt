@@ -5,9 +5,9 @@ ghost use Rattle.trace.specs.Record.{split_of};
 ghost use Rattle.nickelhush.specs.Memory.{lent, handed, hosted, taken_of, size_of, room_of};
 
 use crate::memory::{
-    CORE_LENGTH, SEAT_LENGTH, clear16, clear32, core_in, is_ready, keep, number_at, refuse, seat_in,
+    CORE_LENGTH, SEAT_LENGTH, core_in, is_ready, keep, refuse, seat_in,
 };
-use aggregator::tallies::{TIMEOUT_TALLIES, TIMEOUT_WIDTH, VOTE_TALLIES, VOTE_WIDTH, clear};
+use aggregator::tallies::{TIMEOUT_TALLIES, TIMEOUT_WIDTH, VOTE_TALLIES, VOTE_WIDTH};
 use certificates::config::MEMBERS_MAX;
 use outputs::records::COMMIT_SIZE;
 use replica::started::{ROOM, SLOTS_MAX};
@@ -66,11 +66,11 @@ pub extern "C" fn nickelhush_new(
 )
     ensures { (seat.new ≡ replicate (length seat.old) 0) × (core.new ≡ replicate (length core.old) 0) × (stakes.new ≡ replicate (length stakes.old) 0) × (votes.new ≡ replicate (length votes.old) 0) × (timeouts.new ≡ replicate (length timeouts.old) 0) }
 {
-    clear16(seat);
-    clear(core);
-    clear32(stakes);
-    clear(votes);
-    clear(timeouts);
+    seat.fill(0);
+    core.fill(0);
+    stakes.fill(0);
+    votes.fill(0);
+    timeouts.fill(0);
 }
 
 // How many bytes the record at the front of a trace takes, with its length: 2 or more. 0 at the end
@@ -92,7 +92,7 @@ pub extern "C" fn nickelhush_record(trace: &[u8]) -> usize
 pub extern "C" fn nickelhush_round(core: &[u64]) -> u64
     ensures { result ≡ get_or core.now 0 0 }
 {
-    number_at(core, 0)
+    core.get(0).copied().unwrap_or(0)
 }
 
 // The round that was last voted in, or given up.
@@ -100,7 +100,7 @@ pub extern "C" fn nickelhush_round(core: &[u64]) -> u64
 pub extern "C" fn nickelhush_last_voted(core: &[u64]) -> u64
     ensures { result ≡ get_or core.now 1 0 }
 {
-    number_at(core, 1)
+    core.get(1).copied().unwrap_or(0)
 }
 
 // The round of the last block that was delivered.
@@ -108,7 +108,7 @@ pub extern "C" fn nickelhush_last_voted(core: &[u64]) -> u64
 pub extern "C" fn nickelhush_last_committed(core: &[u64]) -> u64
     ensures { result ≡ get_or core.now 2 0 }
 {
-    number_at(core, 2)
+    core.get(2).copied().unwrap_or(0)
 }
 
 // How much memory to lend: the numbers in seat (0), core (1), stakes (2), votes (3), timeouts (4); the

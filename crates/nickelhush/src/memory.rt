@@ -20,26 +20,18 @@ pub const SEAT_LENGTH: usize = 2;
 pub const CORE_LENGTH: usize = 9;
 
 // Whether the two have the lengths that they must have.
+#[tactic(auto, unfolding(crate::specs::Memory::fit))]
 fn is_fit(seat: &[u16], core: &[u64]) -> bool
     ensures { result ≡ fit (length seat.now) (length core.now) }
 {
-    if seat.len() == SEAT_LENGTH {
-        return core.len() == CORE_LENGTH;
-    }
-    false
+    seat.len() == SEAT_LENGTH && core.len() == CORE_LENGTH
 }
 
 // That, and the record has a form. What has none is refused before the replica is read.
 pub(crate) fn is_ready(seat: &[u16], core: &[u64], input: &[u8]) -> bool
     ensures { result ≡ ready (length seat.now) (length core.now) (form_of input.now) }
 {
-    if is_fit(seat, core) {
-        if is_bad(form_of(input)) {
-            return false;
-        }
-        return true;
-    }
-    false
+    is_fit(seat, core) && !is_bad(form_of(input))
 }
 
 pub(crate) fn seat_in(seat: &[u16]) -> Seat
@@ -142,35 +134,4 @@ pub(crate) fn refuse(input: &[u8]) -> u32
     ensures { result ≡ packed (unfit_answer (form_of input.now)) 0 }
 {
     pack(unfit_answer(form_of(input)), 0)
-}
-
-// Every number becomes 0.
-pub(crate) fn clear16(s: &mut [u16])
-    ensures { s.new ≡ replicate (length s.old) 0 }
-{
-    let mut i: usize = 0;
-    while i < s.len() {
-        s[i] = 0;
-        i += 1;
-    }
-}
-
-pub(crate) fn clear32(s: &mut [u32])
-    ensures { s.new ≡ replicate (length s.old) 0 }
-{
-    let mut i: usize = 0;
-    while i < s.len() {
-        s[i] = 0;
-        i += 1;
-    }
-}
-
-// The number at a place, and 0 past the end.
-pub(crate) fn number_at(core: &[u64], i: usize) -> u64
-    ensures { result ≡ get_or core.now i 0 }
-{
-    if i < core.len() {
-        return core[i];
-    }
-    0
 }
