@@ -9,9 +9,8 @@ use lib.ListN.{length, get_or, take, drop, set, length-set}
 use lib.Seq.{take-suc, take_all, take-suc-set}
 use lib.Dec.{eqb, ltb, leb}
 use borrow.Author.Tests.{lt-ltb, le-ltb, ltb-true, ltb-false, leb-true, eqb-true}
+use Rattle.std.specs.Prelude.{Option, None, Some}
 use Rattle.certificates.specs.declared.numbers.Stake.{Stake}
-use Rattle.certificates.specs.declared.config.Setup.{Setup}
-use Rattle.certificates.specs.declared.config.Setup.TheVariants.{Bad, Total}
 use Rattle.certificates.specs.Num.{le, num_at, nums_at}
 use Rattle.certificates.specs.Config.{members_max, sum, stake_of, limited, setup_of}
 use Rattle.certificates.specs.Start.{members_at, member_len, key_len, word_len, same_word, member_count, own_place, stakes_in, key_at, keys_from, keys_in, below, ascending, setup_at, padded, loaded_stakes}
@@ -171,22 +170,22 @@ module _ {body : List ℕ} {n left at : ℕ} (k : Ascended body n left at) where
 -- ---- the setup
 
 module _ (body : List ℕ) {n own : ℕ} (e : n ≡ member_count body) (f : own ≡ own_place body) where
-  pub start-own : n ≤ own → Bad ≡ setup_at body
+  pub start-own : n ≤ own → None ≡ setup_at body
   unfolding setup_at
   start-own h = no_own (ascending (keys_in body))
     where
-      no_own : (b : Bool) → Bad ≡ cond b (cond (ltb (own_place body) (member_count body)) (setup_of (stakes_in body)) Bad) Bad
+      no_own : (b : Bool) → None ≡ cond b (cond (ltb (own_place body) (member_count body)) (setup_of (stakes_in body)) None) None
       no_own true = rw (← e, ← f, le-ltb own n h)
       no_own false = refl
 
-  pub start-many : own < n → members_max < n → Bad ≡ setup_at body
+  pub start-many : own < n → members_max < n → None ≡ setup_at body
   unfolding setup_at
   start-many l h = many (ascending (keys_in body))
     where
-      bad : Bad ≡ setup_of (stakes_in body)
+      bad : None ≡ setup_of (stakes_in body)
       bad = setup-many (stakes_in body) (λ z. omega (arith, length-stakes body)) (omega (arith, length-stakes body))
 
-      many : (b : Bool) → Bad ≡ cond b (cond (ltb (own_place body) (member_count body)) (setup_of (stakes_in body)) Bad) Bad
+      many : (b : Bool) → None ≡ cond b (cond (ltb (own_place body) (member_count body)) (setup_of (stakes_in body)) None) None
       many true = rw (← e, ← f, lt-ltb own n l) bad
       many false = refl
 
@@ -195,11 +194,11 @@ module _ (body : List ℕ) {n own : ℕ} (e : n ≡ member_count body) (f : own 
     unfolding keys_in
     keys = rw (← e) g
 
-    pub start-keys : t ≡ false → Bad ≡ setup_at body
+    pub start-keys : t ≡ false → None ≡ setup_at body
     unfolding setup_at
     start-keys y = rw (← keys, y)
 
-    pub start-good : t ≡ true → own < n → n ≤ members_max → {total : ℕ} {r : Setup} → total ≡ sum (stakes_in body) → r ≡ limited total → r ≡ setup_at body
+    pub start-good : t ≡ true → own < n → n ≤ members_max → {total : ℕ} {r : Option Stake} → total ≡ sum (stakes_in body) → r ≡ limited total → r ≡ setup_at body
     unfolding setup_at
     start-good y l h p q =
         rw (← keys, y) (rw (← f, ← e, lt-ltb own n l)
@@ -207,7 +206,7 @@ module _ (body : List ℕ) {n own : ℕ} (e : n ≡ member_count body) (f : own 
 
 -- ---- what a good setup is known for
 
-from-tests : (keys own : Bool) (r : Setup) (t : Stake) → cond keys (cond own r Bad) Bad ≡ Total t → (own ≡ true) × (r ≡ Total t)
+from-tests : (keys own : Bool) (r : Option Stake) (t : Stake) → cond keys (cond own r None) None ≡ Some t → (own ≡ true) × (r ≡ Some t)
 from-tests true true r t e = (refl, e)
 from-tests true false r t e = absurd (let z : ◌≡◌ {A = ℕ} 0 1 = cc in omega arith)
 from-tests false own r t e = absurd (let z : ◌≡◌ {A = ℕ} 0 1 = cc in omega arith)
@@ -216,9 +215,9 @@ pub record Started (body : List ℕ) (t : Stake) : Type 0 where
   pub some : 0 < member_count body
   pub few : member_count body ≤ members_max
   pub own : own_place body < member_count body
-  pub members : setup_of (stakes_in body) ≡ Total t
+  pub members : setup_of (stakes_in body) ≡ Some t
 
-pub started : (body : List ℕ) (t : Stake) → setup_at body ≡ Total t → Started body t
+pub started : (body : List ℕ) (t : Stake) → setup_at body ≡ Some t → Started body t
 unfolding setup_at
 started body t e =
     let k = from-tests (ascending (keys_in body)) (ltb (own_place body) (member_count body)) (setup_of (stakes_in body)) t e in
@@ -267,7 +266,7 @@ module _ (n : ℕ) (body : List ℕ) where
   loaded-members h = rw (← length-stakes body) (take-padded n (stakes_in body) (omega (arith, length-stakes body)))
 
 -- the committee that was loaded keeps the limits, as the body did
-pub loaded-setup : (n : ℕ) (body : List ℕ) (t : Stake) → members_max ≤ n → setup_at body ≡ Total t → setup_of (take (member_count body) (loaded_stakes n body)) ≡ Total t
+pub loaded-setup : (n : ℕ) (body : List ℕ) (t : Stake) → members_max ≤ n → setup_at body ≡ Some t → setup_of (take (member_count body) (loaded_stakes n body)) ≡ Some t
 loaded-setup n body t h e =
     let s = started body t e in
     let few : member_count body ≤ n = omega arith in

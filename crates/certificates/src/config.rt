@@ -27,13 +27,6 @@ const KEY_LEN: usize = 32;
 // The bytes of a word, by which keys are compared first.
 const WORD: usize = 8;
 
-// Whether a committee keeps the limits, and its total stake where it does.
-#[derive(Clone, Copy)]
-pub enum Setup {
-    Bad,
-    Total(Stake),
-}
-
 // The stake of a place, which is 0 where the place is no member's.
 pub fn stake(members: &[u32], place: Place) -> Stake
     ensures { result.0 ≡ stake_of members.now place.0 }
@@ -54,14 +47,14 @@ pub fn quorum_threshold(total: Stake) -> Stake
     Stake(q as u32)
 }
 
-// The limit of the total.
-fn limit(total: u64) -> Setup
+// The total, where it keeps the limit.
+fn limit(total: u64) -> Option<Stake>
     ensures { result ≡ limited total }
 {
     if TOTAL_MAX < total {
-        return Setup::Bad;
+        return None;
     }
-    Setup::Total(Stake(total as u32))
+    Some(Stake(total as u32))
 }
 
 // The stake of so few members that the sum fits.
@@ -100,16 +93,16 @@ fn sum_stakes(members: &[u32]) -> u64
     sum_any(members)
 }
 
-// The total stake of a committee: `Bad` without members, with too many, or with too much stake.
-pub fn total_stake(members: &[u32]) -> Setup
+// The total stake of a committee: none without members, with too many, or with too much stake.
+pub fn total_stake(members: &[u32]) -> Option<Stake>
     ensures { result ≡ setup_of members.now }
 {
     let n = members.len();
     if n == 0 {
-        return Setup::Bad;
+        return None;
     }
     if MEMBERS_MAX < n {
-        return Setup::Bad;
+        return None;
     }
     limit(sum_stakes(members))
 }
@@ -220,22 +213,23 @@ fn keys_ascend(body: &[u8], n: usize) -> bool
     true
 }
 
-// START's body: its members keep the limits, their keys ascend, and the own place is one of theirs.
-pub fn check_setup(body: &[u8]) -> Setup
+// The total stake in START's body, where its members keep the limits, their keys ascend, and the own place is
+// one of theirs.
+pub fn check_setup(body: &[u8]) -> Option<Stake>
     ensures { result ≡ setup_at body.now }
 {
     let n = member_count(body) as usize;
     let own = own_place(body);
     if n <= own.0 as usize {
-        return Setup::Bad;
+        return None;
     }
     if MEMBERS_MAX < n {
-        return Setup::Bad;
+        return None;
     }
     if keys_ascend(body, n) {
         return limit(sum_in(body, n));
     }
-    Setup::Bad
+    None
 }
 
 // The stakes of START's body into a lent slice: member by member, and 0 past the last.
