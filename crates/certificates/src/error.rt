@@ -86,7 +86,7 @@ pub fn number_of(c: Result<Signers, CertificateError>, quorum: u16) -> u16
     ensures { result ≡ number_of c quorum }
 {
     match c {
-        Ok(_) => DONE,
+        Ok(Signers(_)) => DONE,
         Err(CertificateError::AuthorityReuse(_)) => AUTHORITY_REUSE,
         Err(CertificateError::UnknownAuthority(_)) => UNKNOWN_AUTHORITY,
         Err(CertificateError::RequiresQuorum) => quorum,
@@ -100,7 +100,7 @@ pub fn author_number(a: Result<Stake, AuthorError>) -> u16
     ensures { result ≡ author_number a }
 {
     match a {
-        Ok(_) => DONE,
+        Ok(Stake(_)) => DONE,
         Err(AuthorError::UnknownAuthority(_)) => UNKNOWN_AUTHORITY,
         Err(AuthorError::InvalidSignature) => INVALID_SIGNATURE,
     }
@@ -111,7 +111,7 @@ pub fn setup_number(s: Option<Stake>) -> u16
     ensures { result ≡ setup_number s }
 {
     match s {
-        Some(_) => DONE,
+        Some(Stake(_)) => DONE,
         None => BAD_SETUP,
     }
 }

@@ -69,7 +69,12 @@ fn is_unknown(members: &[u32], p: Place) -> bool
 }
 
 // Signers of whom each is known and none is named twice: the quorum, and then the verdict.
-fn settle(members: &[u32], need: Stake, verdict: bool, s: Signers) -> Result<Signers, CertificateError>
+fn settle(
+    members: &[u32],
+    need: Stake,
+    verdict: bool,
+    s: Signers,
+) -> Result<Signers, CertificateError>
     ensures { result ≡ settled_by members.now need.0 verdict s }
 {
     let held = weight(members, s);
@@ -122,7 +127,13 @@ fn check_list(
 }
 
 // The end of a certificate, from `at` on: verdict 1, count 2, then the entries.
-fn check_tail(members: &[u32], need: Stake, part: &[u8], at: usize, stride: usize) -> Result<Signers, CertificateError>
+fn check_tail(
+    members: &[u32],
+    need: Stake,
+    part: &[u8],
+    at: usize,
+    stride: usize,
+) -> Result<Signers, CertificateError>
     requires { (at ≤ 40) × (2 ≤ stride) × (stride ≤ 10) }
     ensures { result ≡ check_part record { at = at; stride = stride } members.now need.0 part.now }
 {
@@ -162,7 +173,11 @@ pub fn equals_genesis(part: &[u8]) -> bool
 }
 
 // The QC inside a block or a timeout: one that equals genesis is not checked, and names no signers.
-pub fn check_embedded_qc(members: &[u32], need: Stake, part: &[u8]) -> Result<Signers, CertificateError>
+pub fn check_embedded_qc(
+    members: &[u32],
+    need: Stake,
+    part: &[u8],
+) -> Result<Signers, CertificateError>
     ensures { result ≡ embedded_check members.now need.0 part.now }
 {
     if equals_genesis(part) {
