@@ -12,16 +12,26 @@ use lib.Seq.{take-suc, take_all}
 use lib.Bits.{bit_or, or_add_and, and_le_l, and_le_r}
 use lib.Dec.{eqb, ltb}
 use borrow.Author.Tests.{eq-eqb, ne_eqb, eqb-false, lt-ltb, le-ltb, ltb-false}
-use Rattle.std.specs.Prelude.{Option, None, Some}
+use Rattle.std.specs.Prelude.{fold, Option, None, Some}
+use Rattle.std.proofs.Common.{zero-add}
 use Rattle.certificates.specs.declared.numbers.Stake.{Stake}
 use Rattle.certificates.specs.Config.{members_max, total_max, sum, stake_of, quorum_from, quorum_of, limited, setup_of}
 
 -- ---- sums
 
+pub sum-from : (a : ℕ) (xs : List ℕ) → fold (λ s x. s + x) a xs ≡ a + sum xs
+unfolding sum
+sum-from a [] = omega arith
+sum-from a (x ∷ xs) = omega (arith, sum-from (a + x) xs)
+
 pub sum-append : (xs ys : List ℕ) → sum (xs ++ ys) ≡ sum xs + sum ys
 unfolding sum
 sum-append [] ys = omega arith
 sum-append (x ∷ xs) ys = omega (arith, sum-append xs ys)
+
+-- the library's sum of a list
+pub sum_all : (xs : List ℕ) → fold (λ a x. a + x) 0 xs ≡ sum xs
+sum_all xs = sum-from 0 xs ∙ zero-add (sum xs)
 
 pub sum-split : (n : ℕ) (xs : List ℕ) → sum (take n xs) + sum (drop n xs) ≡ sum xs
 sum-split n xs = sym (sum-append (take n xs) (drop n xs)) ∙ ap sum (take-append-drop n xs)

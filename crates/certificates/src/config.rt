@@ -28,14 +28,11 @@ const KEY_LEN: usize = 32;
 const WORD: usize = 8;
 
 // The stake of a place, which is 0 where the place is no member's.
+#[tactic(auto, unfolding(crate::specs::Config::stake_of))]
 pub fn stake(members: &[u32], place: Place) -> Stake
     ensures { result.0 ≡ stake_of members.now place.0 }
 {
-    let p = place.0 as usize;
-    if p < members.len() {
-        return Stake(members[p]);
-    }
-    Stake(0)
+    Stake(members.get(place.0 as usize).copied().unwrap_or(0))
 }
 
 // Two thirds of the total, rounded down, and one more.
@@ -58,18 +55,12 @@ fn limit(total: u64) -> Option<Stake>
 }
 
 // The stake of so few members that the sum fits.
+#[tactic(auto, using(crate::proofs::ConfigLaws::sum_all))]
 fn sum_any(members: &[u32]) -> u64
     requires { length members.now ≤ members_max }
     ensures { result ≡ sum members.now }
 {
-    let mut sum: u64 = 0;
-    let mut i = 0;
-    while i < members.len() {
-        let s = members[i];
-        sum += s as u64;
-        i += 1;
-    }
-    sum
+    members.iter().map(|s| u64::from(*s)).sum()
 }
 
 // The same. Where no stake is large, which `all` tells, the sum fits 32 bits: every event asks for it, and
@@ -80,15 +71,12 @@ fn sum_stakes(members: &[u32]) -> u64
 {
     let mut all: u32 = 0;
     let mut sum: u32 = 0;
-    let mut i = 0;
-    while i < members.len() {
-        let s = members[i];
-        all = all | s;
-        sum += s % LARGE;
-        i += 1;
+    for stake in members {
+        all |= *stake;
+        sum += *stake % LARGE;
     }
     if all < LARGE {
-        return sum as u64;
+        return u64::from(sum);
     }
     sum_any(members)
 }
@@ -138,12 +126,9 @@ fn sum_in(body: &[u8], n: usize) -> u64
     requires { (n ≡ member_count body.now) × (n ≤ members_max) }
     ensures { result ≡ sum (stakes_in body.now) }
 {
-    let mut sum: u64 = 0;
-    let mut i = 0;
-    while i < n {
-        let s = stake_in(body, i);
-        sum += s as u64;
-        i += 1;
+    let mut sum = 0;
+    for i in 0..n {
+        sum += u64::from(stake_in(body, i));
     }
     sum
 }
@@ -236,9 +221,7 @@ pub fn check_setup(body: &[u8]) -> Option<Stake>
 pub fn load(stakes: &mut [u32], body: &[u8])
     ensures { stakes.new ≡ loaded_stakes (length stakes.old) body.now }
 {
-    let mut i = 0;
-    while i < stakes.len() {
-        stakes[i] = stake_in(body, i);
-        i += 1;
+    for (i, stake) in stakes.iter_mut().enumerate() {
+        *stake = stake_in(body, i);
     }
 }
