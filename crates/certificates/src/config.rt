@@ -154,26 +154,15 @@ fn key_below(body: &[u8], a: usize, b: usize) -> bool
     requires { (a ≤ members_at + member_len * members_max) × (b ≤ members_at + member_len * members_max) }
     ensures { result ≡ below (key_at body.now a) (key_at body.now b) }
 {
-    let mut x = a;
-    let mut y = b;
-    let mut left = KEY_LEN;
-    while 0 < left {
-        if is_word_same(body, x, y, left) {
-            x += WORD;
-            y += WORD;
-            left -= WORD;
-        } else {
-            let u = u8_at(body, x);
-            let v = u8_at(body, y);
-            if u < v {
-                return true;
-            }
-            if v < u {
-                return false;
-            }
-            x += 1;
-            y += 1;
-            left -= 1;
+    let mut same = 0;
+    while is_word_same(body, a + same, b + same, KEY_LEN - same) {
+        same += WORD;
+    }
+    for i in same..KEY_LEN {
+        let u = u8_at(body, a + i);
+        let v = u8_at(body, b + i);
+        if u != v {
+            return u < v;
         }
     }
     false
@@ -184,14 +173,9 @@ fn keys_ascend(body: &[u8], n: usize) -> bool
     requires { n ≤ members_max }
     ensures { result ≡ ascending (keys_from n body.now members_at) }
 {
-    let mut at = MEMBERS_AT;
-    let mut left = n;
-    while 1 < left {
-        let next = at + MEMBER_LEN;
-        if key_below(body, at, next) {
-            at = next;
-            left -= 1;
-        } else {
+    for i in 1..n {
+        let at = MEMBERS_AT + MEMBER_LEN * i;
+        if !key_below(body, at - MEMBER_LEN, at) {
             return false;
         }
     }

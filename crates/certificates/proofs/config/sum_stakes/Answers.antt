@@ -1,8 +1,7 @@
 -- `certificates::config::sum_stakes` meets its contract: a law for none, for one more stake, and for all of them. Assumes nothing.
-use borrow.Author.Rules.{rules}
 use native.Mathlib.Omega.{arith}
 use mathlib.Core.Path.{refl}
-use Rattle.certificates.proofs.ConfigLaws.{small-none, small-more, small_all}
+use Rattle.certificates.proofs.ConfigLaws.{small-none, small-more}
 use Rattle.certificates.proofs.config.sum_stakes.Goals as goal
 
 pub loop-stake-init : goal.loop-stake-init
