@@ -11,10 +11,11 @@ use lib.Seq.{take-length}
 use lib.Dec.{eqb, ltb, leb}
 use lib.Count.{ones}
 use borrow.Author.Tests.{eqb-true, eq-eqb, ltb-false, le-ltb, leb-true, le-leb}
+use Rattle.std.specs.Prelude.{Result, Ok, Err}
 use Rattle.certificates.specs.declared.numbers.Place.{Place}
 use Rattle.certificates.specs.declared.numbers.Signers.{Signers}
-use Rattle.certificates.specs.declared.messages.Checked.{Checked}
-use Rattle.certificates.specs.declared.messages.Checked.TheVariants.{Accepted, AuthorityReuse, UnknownAuthority, RequiresQuorum, InvalidSignature, Cut}
+use Rattle.certificates.specs.declared.error.CertificateError.{CertificateError}
+use Rattle.certificates.specs.declared.error.CertificateError.TheVariants.{AuthorityReuse, UnknownAuthority, RequiresQuorum, InvalidSignature, Cut}
 use Rattle.certificates.specs.Signers.{is_in, stake_in, both, words, no_signers, signers_of, weight_of, member, stake_on, shared}
 use Rattle.certificates.specs.Messages.{Form, qc_form, tc_form, verdict_in, count_of, places_in, is_whole, unknown_to, settled_of, check_from, check_part}
 use Rattle.certificates.specs.Messages.{qc_check, tc_check, equals_genesis, embedded_check}
@@ -27,28 +28,28 @@ use Rattle.certificates.proofs.Check.{Known, known, known-stake}
 
 -- ---- back from an answer to the tests that led to it
 
-from_settled : (short verdict : Bool) (v s : Signers) → cond short RequiresQuorum (cond verdict (Accepted v) InvalidSignature) ≡ Accepted s
+from_settled : (short verdict : Bool) (v s : Signers) → cond short (Err RequiresQuorum) (cond verdict (Ok v) (Err InvalidSignature)) ≡ Ok s
     → (short ≡ false) × (verdict ≡ true) × (v ≡ s)
 from_settled true verdict v s e = absurd (let z : ◌≡◌ {A = ℕ} 0 1 = cc in omega arith)
 from_settled false true v s e = (refl, refl, cc)
 from_settled false false v s e = absurd (let z : ◌≡◌ {A = ℕ} 0 1 = cc in omega arith)
 
-from_step : (repeat none : Bool) (p : Place) (rest : Checked) (s : Signers) → cond repeat (AuthorityReuse p) (cond none (UnknownAuthority p) rest) ≡ Accepted s
-    → (repeat ≡ false) × (none ≡ false) × (rest ≡ Accepted s)
+from_step : (repeat none : Bool) (p : Place) (rest : Result Signers CertificateError) (s : Signers) → cond repeat (Err (AuthorityReuse p)) (cond none (Err (UnknownAuthority p)) rest) ≡ Ok s
+    → (repeat ≡ false) × (none ≡ false) × (rest ≡ Ok s)
 from_step true none p rest s e = absurd (let z : ◌≡◌ {A = ℕ} 0 1 = cc in omega arith)
 from_step false true p rest s e = absurd (let z : ◌≡◌ {A = ℕ} 0 1 = cc in omega arith)
 from_step false false p rest s e = (refl, refl, e)
 
-from-part : (whole : Bool) (r : Checked) (s : Signers) → cond whole r Cut ≡ Accepted s → (whole ≡ true) × (r ≡ Accepted s)
+from-part : (whole : Bool) (r : Result Signers CertificateError) (s : Signers) → cond whole r (Err Cut) ≡ Ok s → (whole ≡ true) × (r ≡ Ok s)
 from-part true r s e = (refl, e)
 from-part false r s e = absurd (let z : ◌≡◌ {A = ℕ} 0 1 = cc in omega arith)
 
-settled-not-cut : (short verdict : Bool) (s : Signers) → cond short RequiresQuorum (cond verdict (Accepted s) InvalidSignature) ≢ Cut
+settled-not-cut : (short verdict : Bool) (s : Signers) → cond short (Err RequiresQuorum) (cond verdict (Ok s) (Err InvalidSignature)) ≢ (Err Cut)
 settled-not-cut true verdict s e = let z : ◌≡◌ {A = ℕ} 0 1 = cc in omega arith
 settled-not-cut false true s e = let z : ◌≡◌ {A = ℕ} 0 1 = cc in omega arith
 settled-not-cut false false s e = let z : ◌≡◌ {A = ℕ} 0 1 = cc in omega arith
 
-step-not-cut : (repeat none : Bool) (p : Place) (rest : Checked) → rest ≢ Cut → cond repeat (AuthorityReuse p) (cond none (UnknownAuthority p) rest) ≢ Cut
+step-not-cut : (repeat none : Bool) (p : Place) (rest : Result Signers CertificateError) → rest ≢ (Err Cut) → cond repeat (Err (AuthorityReuse p)) (cond none (Err (UnknownAuthority p)) rest) ≢ (Err Cut)
 step-not-cut true none p rest n e = let z : ◌≡◌ {A = ℕ} 0 1 = cc in omega arith
 step-not-cut false true p rest n e = let z : ◌≡◌ {A = ℕ} 0 1 = cc in omega arith
 step-not-cut false false p rest n e = n e
@@ -61,7 +62,7 @@ pub data Walked (m : List ℕ) : List ℕ → List ℕ → Type 0 where
   steps : {seen : List ℕ} {p : ℕ} {ps : List ℕ} → member p seen ≡ false → unknown_to m p ≡ false → Walked m (seen ++ p ∷ []) ps → Walked m seen (p ∷ ps)
 
 module _ (m : List ℕ) (need : ℕ) (verdict : Bool) where
-  accepted-walked : (seen ps : List ℕ) (s : Signers) → check_from m need verdict seen ps ≡ Accepted s → Walked m seen ps
+  accepted-walked : (seen ps : List ℕ) (s : Signers) → check_from m need verdict seen ps ≡ Ok s → Walked m seen ps
   unfolding check_from
   accepted-walked seen [] s e = ends
   accepted-walked seen (p ∷ ps) s e =
@@ -216,7 +217,7 @@ pub record Certified (f : Form) (m : List ℕ) (need : ℕ) (part : List ℕ) (s
   pub quorum : need ≤ weight_of m s
   pub verdict : verdict_in f part ≡ 1
 
-pub certified : (f : Form) (m : List ℕ) (need : ℕ) (part : List ℕ) (s : Signers) → check_part f m need part ≡ Accepted s → Certified f m need part s
+pub certified : (f : Form) (m : List ℕ) (need : ℕ) (part : List ℕ) (s : Signers) → check_part f m need part ≡ Ok s → Certified f m need part s
 unfolding check_part is_whole settled_of weight_of
 certified f m need part s e =
     let ps = places_in f part in
@@ -236,7 +237,7 @@ certified f m need part s e =
     }
 
 pub accepted : (f : Form) (m : List ℕ) (need : ℕ) (part : List ℕ) → f.at + 3 + f.stride * count_of f part ≤ length part → Walked m [] (places_in f part)
-    → need ≤ stake_on m (places_in f part) → verdict_in f part ≡ 1 → check_part f m need part ≡ Accepted (signers_of (places_in f part))
+    → need ≤ stake_on m (places_in f part) → verdict_in f part ≡ 1 → check_part f m need part ≡ Ok (signers_of (places_in f part))
 unfolding check_part is_whole settled_of
 accepted f m need part h w q v =
     rw (le-leb _ (length part) h)
@@ -245,7 +246,7 @@ accepted f m need part h w q v =
 -- a list of distinct members with stake that names whom a set has is accepted where the set's stake reaches what is needed
 pub named-accepted : (f : Form) (m : List ℕ) (need : ℕ) (part : List ℕ) (s : Signers) → f.at + 3 + f.stride * count_of f part ≤ length part → Distinct m (places_in f part)
     → ((q : ℕ) → is_in (words s) q ≡ cond (member q (places_in f part)) 1 0) → need ≤ weight_of m s → verdict_in f part ≡ 1
-    → check_part f m need part ≡ Accepted (signers_of (places_in f part))
+    → check_part f m need part ≡ Ok (signers_of (places_in f part))
 unfolding weight_of
 named-accepted f m need part s h d same q v =
     let w = distinct-walked m (places_in f part) d in
@@ -254,14 +255,14 @@ named-accepted f m need part s h d same q v =
     accepted f m need part h w (omega (arith, k.1.clean.stake, held, q)) v
 
 -- a list that is whole is never cut
-pub check-not-cut : (m : List ℕ) (need : ℕ) (verdict : Bool) (seen ps : List ℕ) → check_from m need verdict seen ps ≢ Cut
+pub check-not-cut : (m : List ℕ) (need : ℕ) (verdict : Bool) (seen ps : List ℕ) → check_from m need verdict seen ps ≢ (Err Cut)
 unfolding check_from settled_of
 check-not-cut m need verdict seen [] e = settled-not-cut (ltb (stake_on m seen) need) verdict (signers_of seen) e
 check-not-cut m need verdict seen (p ∷ ps) e =
     step-not-cut (member p seen) (unknown_to m p) record { 0 = p } (check_from m need verdict (seen ++ p ∷ []) ps)
     (check-not-cut m need verdict (seen ++ p ∷ []) ps) e
 
-pub whole-not-cut : (f : Form) (m : List ℕ) (need : ℕ) (part : List ℕ) → f.at + 3 + f.stride * count_of f part ≤ length part → check_part f m need part ≢ Cut
+pub whole-not-cut : (f : Form) (m : List ℕ) (need : ℕ) (part : List ℕ) → f.at + 3 + f.stride * count_of f part ≤ length part → check_part f m need part ≢ (Err Cut)
 unfolding check_part is_whole
 whole-not-cut f m need part h e = check-not-cut m need (eqb (verdict_in f part) 1) [] (places_in f part) (rw (le-leb _ (length part) h) at e)
 

@@ -5,10 +5,10 @@ use mathlib.Core.Path.{◌≡◌, refl}
 use mathlib.Core.List.{List, [], ◌∷◌, ◌++◌, map}
 use lib.ListN.{length, replicate}
 use lib.Count.{ones}
-use Rattle.certificates.specs.declared.config.Setup.{Setup}
-use Rattle.certificates.specs.declared.config.Setup.TheVariants.{Bad, Total}
-use Rattle.certificates.specs.declared.messages.Checked.{Checked}
-use Rattle.certificates.specs.declared.messages.Checked.TheVariants.{Accepted, AuthorityReuse, UnknownAuthority, RequiresQuorum, InvalidSignature, Cut}
+use Rattle.std.specs.Prelude.{Option, None, Some, Result, Ok, Err}
+use Rattle.certificates.specs.declared.numbers.Signers.{Signers}
+use Rattle.certificates.specs.declared.numbers.Stake.{Stake}
+use Rattle.certificates.specs.declared.error.CertificateError.{CertificateError}
 use Rattle.certificates.specs.Num.{le, num_at, hash_at, nums_at}
 use Rattle.certificates.specs.Config.{sum, stake_of, quorum_from, quorum_of, limited, setup_of}
 use Rattle.certificates.specs.Start.{member_count, own_place, stakes_in, key_at, keys_from, keys_in, below, ascending, setup_at}
@@ -50,17 +50,13 @@ pub data Question : Type 0 where
   counts : ℕ → List ℕ → Question
   in_block : ℕ → ℕ → List ℕ → Question
 
-unfoldable pub after_start : Setup → ℕ
-after_start Bad = bad_setup
-after_start (Total t) = quorum_from t.0
+unfoldable pub after_start : Option Stake → ℕ
+after_start None = bad_setup
+after_start (Some t) = quorum_from t.0
 
-unfoldable pub accepted_by : Checked → ℕ
-accepted_by (Accepted s) = ones s.0
-accepted_by (AuthorityReuse p) = 0
-accepted_by (UnknownAuthority p) = 0
-accepted_by RequiresQuorum = 0
-accepted_by InvalidSignature = 0
-accepted_by Cut = 0
+unfoldable pub accepted_by : Result Signers CertificateError → ℕ
+accepted_by (Ok s) = ones s.0
+accepted_by (Err e) = 0
 
 unfoldable pub answer_to : Question → ℕ
 answer_to (totals total) = after_start (setup_at (start_bytes total))

@@ -10,9 +10,10 @@ use lib.ListN.{length, get_or, take, drop, drop_of_length-le}
 use lib.Seq.{take-suc, drop-cons}
 use lib.Dec.{eqb}
 use borrow.Author.Tests.{ne_eqb, eqb-false, lt-ltb, le-ltb, ltb-true, lt-leb, le-leb}
+use Rattle.std.specs.Prelude.{Result, Ok, Err}
 use Rattle.certificates.specs.declared.numbers.Signers.{Signers}
-use Rattle.certificates.specs.declared.messages.Checked.{Checked}
-use Rattle.certificates.specs.declared.messages.Checked.TheVariants.{Accepted, AuthorityReuse, UnknownAuthority, RequiresQuorum, InvalidSignature, Cut}
+use Rattle.certificates.specs.declared.error.CertificateError.{CertificateError}
+use Rattle.certificates.specs.declared.error.CertificateError.TheVariants.{AuthorityReuse, UnknownAuthority, RequiresQuorum, InvalidSignature, Cut}
 use Rattle.certificates.specs.Num.{num_at, nums_at}
 use Rattle.certificates.specs.Config.{members_max, stake_of}
 use Rattle.certificates.specs.Signers.{weight_of, member}
@@ -47,15 +48,15 @@ pub record Known (m : List ℕ) (p : ℕ) : Type 0 where
 -- ---- the quorum, and then the verdict
 
 module _ (m : List ℕ) (need : ℕ) (s : Signers) {held : ℕ} (e : held ≡ weight_of m s) where
-  pub settled-short : (verdict : Bool) → held < need → RequiresQuorum ≡ settled_by m need verdict s
+  pub settled-short : (verdict : Bool) → held < need → (Err RequiresQuorum) ≡ settled_by m need verdict s
   unfolding settled_by
   settled-short verdict h = rw (← e, lt-ltb held need h)
 
-  pub settled-yes : {verdict : Bool} → need ≤ held → verdict ≡ true → Accepted s ≡ settled_by m need verdict s
+  pub settled-yes : {verdict : Bool} → need ≤ held → verdict ≡ true → Ok s ≡ settled_by m need verdict s
   unfolding settled_by
   settled-yes h y = rw (← e, le-ltb held need h, y)
 
-  pub settled-no : {verdict : Bool} → need ≤ held → verdict ≡ false → InvalidSignature ≡ settled_by m need verdict s
+  pub settled-no : {verdict : Bool} → need ≤ held → verdict ≡ false → (Err InvalidSignature) ≡ settled_by m need verdict s
   unfolding settled_by
   settled-no h y = rw (← e, le-ltb held need h, y)
 
@@ -65,8 +66,8 @@ module _ (m : List ℕ) (need : ℕ) (verdict : Bool) (ps : List ℕ) (i : ℕ) 
   -- the check after the first i signers, where there is one more
   check-step : i < length ps
       → check_from m need verdict (take i ps) (drop i ps)
-      ≡ cond (member (get_or ps i 0) (take i ps)) (AuthorityReuse record { 0 = get_or ps i 0 })
-      (cond (unknown_to m (get_or ps i 0)) (UnknownAuthority record { 0 = get_or ps i 0 }) (check_from m need verdict (take (i + 1) ps) (drop (i + 1) ps)))
+      ≡ cond (member (get_or ps i 0) (take i ps)) (Err (AuthorityReuse record { 0 = get_or ps i 0 }))
+      (cond (unknown_to m (get_or ps i 0)) (Err (UnknownAuthority record { 0 = get_or ps i 0 })) (check_from m need verdict (take (i + 1) ps) (drop (i + 1) ps)))
   unfolding check_from
   check-step h = rw (drop-cons ps i 0 h, add-one, take-suc ps i 0 h)
 
@@ -83,20 +84,20 @@ pub walk_none : (m : List ℕ) (need : ℕ) (verdict : Bool) (ps : List ℕ) →
 walk_none m need verdict ps = record { so_far = refl }
 
 module _ {m : List ℕ} {need : ℕ} {verdict : Bool} {ps : List ℕ} {i : ℕ} (k : Walk m need verdict ps i) where
-  pub at-end : (s : Signers) → length ps ≤ i → Signed m (take i ps) s → {r : Checked} → r ≡ settled_by m need verdict s → r ≡ check_from m need verdict [] ps
+  pub at-end : (s : Signers) → length ps ≤ i → Signed m (take i ps) s → {r : Result Signers CertificateError} → r ≡ settled_by m need verdict s → r ≡ check_from m need verdict [] ps
   at-end s h c e = e ∙ sym (check-end m need verdict ps i s h c) ∙ k.so_far
 
   module _ (p : ℕ) (here : p ≡ get_or ps i 0) (h : i < length ps) where
     step : check_from m need verdict [] ps
-        ≡ cond (member p (take i ps)) (AuthorityReuse record { 0 = p })
-        (cond (unknown_to m p) (UnknownAuthority record { 0 = p }) (check_from m need verdict (take (i + 1) ps) (drop (i + 1) ps)))
+        ≡ cond (member p (take i ps)) (Err (AuthorityReuse record { 0 = p }))
+        (cond (unknown_to m p) (Err (UnknownAuthority record { 0 = p })) (check_from m need verdict (take (i + 1) ps) (drop (i + 1) ps)))
     step = sym k.so_far ∙ rw here (check-step m need verdict ps i h)
 
     -- the signer at i stands at an earlier j as well
-    pub at-repeat : (j : ℕ) → j < i → get_or ps j 0 ≡ p → AuthorityReuse record { 0 = p } ≡ check_from m need verdict [] ps
+    pub at-repeat : (j : ℕ) → j < i → get_or ps j 0 ≡ p → Err (AuthorityReuse record { 0 = p }) ≡ check_from m need verdict [] ps
     at-repeat j l e = sym (rw (member-take p ps i j l (omega arith) e) at step)
 
-    pub at-unknown : member p (take i ps) ≡ false → unknown_to m p ≡ true → UnknownAuthority record { 0 = p } ≡ check_from m need verdict [] ps
+    pub at-unknown : member p (take i ps) ≡ false → unknown_to m p ≡ true → Err (UnknownAuthority record { 0 = p }) ≡ check_from m need verdict [] ps
     at-unknown fresh none = sym (rw (fresh, none) at step)
 
     pub at-known : member p (take i ps) ≡ false → unknown_to m p ≡ false → Walk m need verdict ps (i + 1)
@@ -111,11 +112,11 @@ known m p e =
 -- ---- the bytes
 
 module _ (f : Form) (m : List ℕ) (need : ℕ) (part : List ℕ) {n : ℕ} (e : n ≡ num_at 2 part (f.at + 1)) where
-  pub part_cut : length part < f.at + 3 + f.stride * n → Cut ≡ check_part f m need part
+  pub part_cut : length part < f.at + 3 + f.stride * n → (Err Cut) ≡ check_part f m need part
   unfolding check_part is_whole count_of
   part_cut h = rw (← e, lt-leb (f.at + 3 + f.stride * n) (length part) h)
 
-  pub part-whole : f.at + 3 + f.stride * n ≤ length part → {verdict : ℕ} → verdict ≡ num_at 1 part f.at → {r : Checked}
+  pub part-whole : f.at + 3 + f.stride * n ≤ length part → {verdict : ℕ} → verdict ≡ num_at 1 part f.at → {r : Result Signers CertificateError}
       → r ≡ check_from m need (eqb verdict 1) [] (nums_at 2 f.stride n part (f.at + 3)) → r ≡ check_part f m need part
   unfolding check_part is_whole count_of places_in verdict_in
   part-whole h v g = rw (← e, ← v, le-leb (f.at + 3 + f.stride * n) (length part) h) g

@@ -12,17 +12,26 @@ use lib.Seq.{take-suc, take_all}
 use lib.Bits.{bit_or, or_add_and, and_le_l, and_le_r}
 use lib.Dec.{eqb, ltb}
 use borrow.Author.Tests.{eq-eqb, ne_eqb, eqb-false, lt-ltb, le-ltb, ltb-false}
+use Rattle.std.specs.Prelude.{fold, Option, None, Some}
+use Rattle.std.proofs.Common.{zero-add}
 use Rattle.certificates.specs.declared.numbers.Stake.{Stake}
-use Rattle.certificates.specs.declared.config.Setup.{Setup}
-use Rattle.certificates.specs.declared.config.Setup.TheVariants.{Bad, Total}
 use Rattle.certificates.specs.Config.{members_max, total_max, sum, stake_of, quorum_from, quorum_of, limited, setup_of}
 
 -- ---- sums
+
+pub sum-from : (a : ℕ) (xs : List ℕ) → fold (λ s x. s + x) a xs ≡ a + sum xs
+unfolding sum
+sum-from a [] = omega arith
+sum-from a (x ∷ xs) = omega (arith, sum-from (a + x) xs)
 
 pub sum-append : (xs ys : List ℕ) → sum (xs ++ ys) ≡ sum xs + sum ys
 unfolding sum
 sum-append [] ys = omega arith
 sum-append (x ∷ xs) ys = omega (arith, sum-append xs ys)
+
+-- the library's sum of a list
+pub sum_all : (xs : List ℕ) → fold (λ a x. a + x) 0 xs ≡ sum xs
+sum_all xs = sum-from 0 xs ∙ zero-add (sum xs)
 
 pub sum-split : (n : ℕ) (xs : List ℕ) → sum (take n xs) + sum (drop n xs) ≡ sum xs
 sum-split n xs = sym (sum-append (take n xs) (drop n xs)) ∙ ap sum (take-append-drop n xs)
@@ -128,24 +137,24 @@ quorum-overlap t a b h k = omega arith
 
 -- ---- the limits
 
-pub limit-bad : (t : ℕ) → total_max < t → Bad ≡ limited t
+pub limit-bad : (t : ℕ) → total_max < t → None ≡ limited t
 unfolding limited
 limit-bad t h = rw (lt-ltb total_max t h)
 
-pub limit-good : (t : ℕ) → t ≤ total_max → Total record { 0 = t } ≡ limited t
+pub limit-good : (t : ℕ) → t ≤ total_max → Some record { 0 = t } ≡ limited t
 unfolding limited
 limit-good t h = rw (le-ltb total_max t h)
 
 module _ (m : List ℕ) where
-  pub setup-none : length m ≡ 0 → Bad ≡ setup_of m
+  pub setup-none : length m ≡ 0 → None ≡ setup_of m
   unfolding setup_of
   setup-none h = rw (eq-eqb (length m) 0 h)
 
-  pub setup-many : (length m ≡ 0 → ⊥) → members_max < length m → Bad ≡ setup_of m
+  pub setup-many : (length m ≡ 0 → ⊥) → members_max < length m → None ≡ setup_of m
   unfolding setup_of
   setup-many n h = rw (ne_eqb (length m) 0 n, lt-ltb members_max (length m) h)
 
-  pub setup-some : (length m ≡ 0 → ⊥) → length m ≤ members_max → {t : ℕ} {r : Setup} → t ≡ sum m → r ≡ limited t → r ≡ setup_of m
+  pub setup-some : (length m ≡ 0 → ⊥) → length m ≤ members_max → {t : ℕ} {r : Option Stake} → t ≡ sum m → r ≡ limited t → r ≡ setup_of m
   unfolding setup_of
   setup-some n h e f = rw (ne_eqb (length m) 0 n, le-ltb members_max (length m) h, ← e) f
 
@@ -156,14 +165,14 @@ pub record Within (m : List ℕ) (t : ℕ) : Type 0 where
   pub some : 0 < length m
   pub few : length m ≤ members_max
 
-from-limits : (none many high : Bool) (n : ℕ) (t : Stake) → cond none Bad (cond many Bad (cond high Bad (Total record { 0 = n }))) ≡ Total t
+from-limits : (none many high : Bool) (n : ℕ) (t : Stake) → cond none None (cond many None (cond high None (Some record { 0 = n }))) ≡ Some t
     → (none ≡ false) × (many ≡ false) × (high ≡ false) × (n ≡ t.0)
 from-limits true many high n t e = absurd (let z : ◌≡◌ {A = ℕ} 0 1 = cc in omega arith)
 from-limits false true high n t e = absurd (let z : ◌≡◌ {A = ℕ} 0 1 = cc in omega arith)
 from-limits false false true n t e = absurd (let z : ◌≡◌ {A = ℕ} 0 1 = cc in omega arith)
 from-limits false false false n t e = (refl, refl, refl, cc)
 
-pub within : (m : List ℕ) (t : Stake) → setup_of m ≡ Total t → Within m t.0
+pub within : (m : List ℕ) (t : Stake) → setup_of m ≡ Some t → Within m t.0
 unfolding setup_of limited
 within m t e =
     let k = from-limits (eqb (length m) 0) (ltb members_max (length m)) (ltb total_max (sum m)) (sum m) t e in

@@ -9,12 +9,13 @@ use native.Mathlib.Omega.{arith}
 use lib.ListN.{length}
 use lib.Dec.{eqb}
 use borrow.Author.Tests.{eq-eqb, ne_eqb, eqb-false, le-leb, lt-leb}
+use Rattle.std.specs.Prelude.{Result, Ok, Err}
 use Rattle.certificates.specs.declared.numbers.Hash.{Hash}
 use Rattle.certificates.specs.declared.numbers.Place.{Place}
+use Rattle.certificates.specs.declared.numbers.Signers.{Signers}
 use Rattle.certificates.specs.declared.numbers.Stake.{Stake}
-use Rattle.certificates.specs.declared.messages.Checked.{Checked}
-use Rattle.certificates.specs.declared.messages.Checked.TheVariants.{Accepted}
-use Rattle.certificates.specs.declared.messages.Authored.TheVariants.{Valid, UnknownAuthority, InvalidSignature}
+use Rattle.certificates.specs.declared.error.CertificateError.{CertificateError}
+use Rattle.certificates.specs.declared.error.AuthorError.TheVariants.{UnknownAuthority, InvalidSignature}
 use Rattle.certificates.specs.Numbers.{zero_hash, same_hash}
 use Rattle.certificates.specs.Num.{num_at, hash_at}
 use Rattle.certificates.specs.Config.{stake_of}
@@ -44,11 +45,11 @@ module _ (part : List ℕ) where
   bytes-genesis l e f g = rw (le-leb qc_form.at (length part) l, ← e, ← f) g
 
 module _ (m : List ℕ) (need : ℕ) (part : List ℕ) {t : Bool} (e : t ≡ equals_genesis part) where
-  pub embedded-genesis : t ≡ true → Accepted no_signers ≡ embedded_check m need part
+  pub embedded-genesis : t ≡ true → Ok no_signers ≡ embedded_check m need part
   unfolding embedded_check
   embedded-genesis y = rw (← e, y)
 
-  pub embedded-other : {r : Checked} → t ≡ false → r ≡ qc_check m need part → r ≡ embedded_check m need part
+  pub embedded-other : {r : Result Signers CertificateError} → t ≡ false → r ≡ qc_check m need part → r ≡ embedded_check m need part
   unfolding embedded_check
   embedded-other y p = rw (← e, y) p
 
@@ -56,19 +57,19 @@ module _ (m : List ℕ) (need : ℕ) (part : List ℕ) {t : Bool} (e : t ≡ equ
 
 module _ (m : List ℕ) (p verdict : ℕ) where
   module _ {s : Stake} (e : s.0 ≡ stake_of m p) where
-    pub author-unknown : s.0 ≡ 0 → UnknownAuthority record { 0 = p } ≡ author_check m p verdict
+    pub author-unknown : s.0 ≡ 0 → Err (UnknownAuthority record { 0 = p }) ≡ author_check m p verdict
     unfolding author_check
     author-unknown h = rw (← e, eq-eqb s.0 0 h)
 
-    pub author-invalid : (s.0 ≡ 0 → ⊥) → verdict ≡ 0 → InvalidSignature ≡ author_check m p verdict
+    pub author-invalid : (s.0 ≡ 0 → ⊥) → verdict ≡ 0 → Err InvalidSignature ≡ author_check m p verdict
     unfolding author_check
     author-invalid n h = rw (← e, ne_eqb s.0 0 n, eq-eqb verdict 0 h)
 
-    pub author-valid : (s.0 ≡ 0 → ⊥) → (verdict ≡ 0 → ⊥) → Valid s ≡ author_check m p verdict
+    pub author-valid : (s.0 ≡ 0 → ⊥) → (verdict ≡ 0 → ⊥) → Ok s ≡ author_check m p verdict
     unfolding author_check
     author-valid n h = rw (← e, ne_eqb s.0 0 n, ne_eqb verdict 0 h)
 
-  from-author : (none bad : Bool) (a : Place) (x : ℕ) (s : Stake) → cond none (UnknownAuthority a) (cond bad InvalidSignature (Valid record { 0 = x })) ≡ Valid s
+  from-author : (none bad : Bool) (a : Place) (x : ℕ) (s : Stake) → cond none (Err (UnknownAuthority a)) (cond bad (Err InvalidSignature) (Ok record { 0 = x })) ≡ Ok s
       → (none ≡ false) × (bad ≡ false) × (x ≡ s.0)
   from-author true bad a x s e = absurd (let z : ◌≡◌ {A = ℕ} 0 1 = cc in omega arith)
   from-author false true a x s e = absurd (let z : ◌≡◌ {A = ℕ} 0 1 = cc in omega arith)
@@ -81,7 +82,7 @@ pub record Author (m : List ℕ) (p verdict s : ℕ) : Type 0 where
   pub member : p < length m
   pub signed : verdict ≢ 0
 
-pub author : (m : List ℕ) (p verdict : ℕ) (s : Stake) → author_check m p verdict ≡ Valid s → Author m p verdict s.0
+pub author : (m : List ℕ) (p verdict : ℕ) (s : Stake) → author_check m p verdict ≡ Ok s → Author m p verdict s.0
 unfolding author_check
 author m p verdict s e =
     let t = from-author m p verdict (eqb (stake_of m p) 0) (eqb verdict 0) record { 0 = p } (stake_of m p) s e in

@@ -1,9 +1,9 @@
 -- Laws of hashes, and of the QC that equals genesis. No contract cites this file. Assumes nothing.
---     both                        two tests that are both passed
+--     both, all-true              two tests that are both passed
 --     hash-same, hash-self        the test of two hashes says yes of equal ones only, and of all of those
 --     genesis-is, genesis-zero    zeros and round 0 equal genesis; what equals genesis has round 0
 use Prim.Native.Nat.{ℕ}
-use mathlib.Core.Bool.{Bool, true, false, cond}
+use mathlib.Core.Bool.{Bool, true, false, cond, ◌&&◌}
 use mathlib.Core.Path.{◌≡◌, refl}
 use native.Mathlib.Omega.{arith}
 use borrow.Author.Tests.{eqb-true, eq-eqb}
@@ -16,11 +16,15 @@ pub both : (a b : Bool) → cond a b false ≡ true → (a ≡ true) × (b ≡ t
 both true b e = (refl, e)
 both false b e = absurd (let z : ◌≡◌ {A = ℕ} 0 1 = cc in omega arith)
 
+all-true : (a b : Bool) → (a && b) ≡ true → (a ≡ true) × (b ≡ true)
+all-true true b e = (refl, e)
+all-true false b e = absurd (let z : ◌≡◌ {A = ℕ} 0 1 = cc in omega arith)
+
 pub hash-same : (x y : Hash) → same_hash x y ≡ true → x ≡ y
 hash-same x y e =
-    let a = both (eqb x.a y.a) _ e in
-    let b = both (eqb x.b y.b) _ a.1 in
-    let c = both (eqb x.c y.c) _ b.1 in
+    let a = all-true (eqb x.a y.a) _ e in
+    let b = all-true (eqb x.b y.b) _ a.1 in
+    let c = all-true (eqb x.c y.c) _ b.1 in
     let r : ◌≡◌ {A = Hash} (record { a = x.a; b = x.b; c = x.c; d = x.d }) (record { a = y.a; b = y.b; c = y.c; d = y.d })
     = rw (eqb-true x.a y.a a.0, eqb-true x.b y.b b.0, eqb-true x.c y.c c.0, eqb-true x.d y.d c.1) in
     r

@@ -5,13 +5,13 @@ use mathlib.Core.List.{List, [], ◌∷◌}
 use mathlib.Core.Bool.{Bool, true, false, cond}
 use native.Mathlib.Omega.{arith}
 use native.Mathlib.Numerals.{add-one}
+use Rattle.std.proofs.Common.{add-zero}
 use lib.ListN.{length, get_or, take, drop, set, length-set}
 use lib.Seq.{take-suc, take_all, take-suc-set}
 use lib.Dec.{eqb, ltb, leb}
 use borrow.Author.Tests.{lt-ltb, le-ltb, ltb-true, ltb-false, leb-true, eqb-true}
+use Rattle.std.specs.Prelude.{Option, None, Some}
 use Rattle.certificates.specs.declared.numbers.Stake.{Stake}
-use Rattle.certificates.specs.declared.config.Setup.{Setup}
-use Rattle.certificates.specs.declared.config.Setup.TheVariants.{Bad, Total}
 use Rattle.certificates.specs.Num.{le, num_at, nums_at}
 use Rattle.certificates.specs.Config.{members_max, sum, stake_of, limited, setup_of}
 use Rattle.certificates.specs.Start.{members_at, member_len, key_len, word_len, same_word, member_count, own_place, stakes_in, key_at, keys_from, keys_in, below, ascending, setup_at, padded, loaded_stakes}
@@ -33,41 +33,48 @@ module _ (body : List ℕ) where
 
 -- ---- keys
 
--- two keys whose first bytes are passed: what is left of them decides as the whole
-pub record Compared (body : List ℕ) (a b left x y : ℕ) : Type 0 where
-  pub rest : below (nums_at 1 1 left body x) (nums_at 1 1 left body y) ≡ below (key_at body a) (key_at body b)
+-- two keys whose first i bytes are passed: what is left of them decides as the whole
+pub record Compared (body : List ℕ) (a b i : ℕ) : Type 0 where
+  pub rest : below (nums_at 1 1 (key_len - i) body (a + i)) (nums_at 1 1 (key_len - i) body (b + i)) ≡ below (key_at body a) (key_at body b)
 
-pub compared-none : (body : List ℕ) (a b : ℕ) → Compared body a b key_len a b
+pub compared-none : (body : List ℕ) (a b : ℕ) → Compared body a b 0
 unfolding key_at
-compared-none body a b = record { rest = refl }
+compared-none body a b = record { rest = rw add-zero (rw add-zero) }
 
-module _ {body : List ℕ} {a b left x y : ℕ} (k : Compared body a b left x y) where
-  compared-step : 0 < left
-      → cond (ltb (num_at 1 body x) (num_at 1 body y)) true
-      (cond (ltb (num_at 1 body y) (num_at 1 body x)) false (below (nums_at 1 1 (left - 1) body (x + 1)) (nums_at 1 1 (left - 1) body (y + 1))))
+module _ {body : List ℕ} {a b i : ℕ} (k : Compared body a b i) where
+  compared-step : i < key_len
+      → cond (ltb (num_at 1 body (a + i)) (num_at 1 body (b + i))) true
+      (cond (ltb (num_at 1 body (b + i)) (num_at 1 body (a + i))) false
+      (below (nums_at 1 1 (key_len - (i + 1)) body (a + (i + 1))) (nums_at 1 1 (key_len - (i + 1)) body (b + (i + 1)))))
       ≡ below (key_at body a) (key_at body b)
   unfolding below nums_at
   compared-step h =
-      let e : left ≡ suc (left - 1) = omega arith in
+      let e : key_len - i ≡ suc (key_len - (i + 1)) = omega arith in
+      let p : a + i + 1 ≡ a + (i + 1) = omega arith in
+      let q : b + i + 1 ≡ b + (i + 1) = omega arith in
+      rw (p, q) at (rw e at k.rest)
+
+  module _ {u v : ℕ} (h : i < key_len) (e : u ≡ num_at 1 body (a + i)) (f : v ≡ num_at 1 body (b + i)) where
+    pub compared-other : (u ≡ v → ⊥) → ltb u v ≡ below (key_at body a) (key_at body b)
+    compared-other n = other (ltb u v) refl
+      where
+        other : (t : Bool) → ltb u v ≡ t → ltb u v ≡ below (key_at body a) (key_at body b)
+        other true l = l ∙ rw (← e, ← f, l) at (compared-step h)
+        other false l = l ∙ rw (← e, ← f, l, lt-ltb v u (omega (arith, ltb-false u v l))) at (compared-step h)
+
+    pub compared_same : u ≡ v → Compared body a b (i + 1)
+    compared_same s = record { rest = rw (← e, ← f, s, le-ltb v v (omega arith)) at (compared-step h) }
+
+  pub compared-all : key_len ≤ i → false ≡ below (key_at body a) (key_at body b)
+  unfolding below nums_at
+  compared-all h =
+      let e : key_len - i ≡ 0 = omega arith in
       rw e at k.rest
 
-  pub compared-less : {u v : ℕ} → 0 < left → u ≡ num_at 1 body x → v ≡ num_at 1 body y → u < v → true ≡ below (key_at body a) (key_at body b)
-  compared-less {u} {v} h e f l = rw (← e, ← f, lt-ltb u v l) at (compared-step h)
-
-  pub compared-more : {u v : ℕ} → 0 < left → u ≡ num_at 1 body x → v ≡ num_at 1 body y → v ≤ u → v < u → false ≡ below (key_at body a) (key_at body b)
-  compared-more {u} {v} h e f n l = rw (← e, ← f, le-ltb u v n, lt-ltb v u l) at (compared-step h)
-
-  pub compared_same : {u v : ℕ} → 0 < left → u ≡ num_at 1 body x → v ≡ num_at 1 body y → v ≤ u → u ≤ v → Compared body a b (left - 1) (x + 1) (y + 1)
-  compared_same {u} {v} h e f n l = record { rest = rw (← e, ← f, le-ltb u v n, le-ltb v u l) at (compared-step h) }
-
-  pub compared-all : left ≡ 0 → false ≡ below (key_at body a) (key_at body b)
-  unfolding below nums_at
-  compared-all h = rw h at k.rest
-
 -- a word that is passed
-pub record PassedWord (body : List ℕ) (a b left x y : ℕ) : Type 0 where
-  pub long : word_len ≤ left
-  pub next : Compared body a b (left - word_len) (x + word_len) (y + word_len)
+pub record PassedWord (body : List ℕ) (a b i : ℕ) : Type 0 where
+  pub long : i + word_len ≤ key_len
+  pub next : Compared body a b (i + word_len)
 
 from-word : (s p q : Bool) (m n : ℕ) → true ≡ cond s false (cond p (cond q (eqb m n) false) false) → (s ≡ false) × (p ≡ true) × (q ≡ true) × (m ≡ n)
 from-word true p q m n e = absurd (let z : ◌≡◌ {A = ℕ} 0 1 = cc in omega arith)
@@ -87,30 +94,28 @@ module _ (body : List ℕ) (bytes : (i : ℕ) → get_or body i 0 < 256) where
       (omega (arith, read, low), rw (long, read) at (sym both))
 
   -- bytes that make the same number are the same, and are passed together
-  pub compared-bytes : (w : ℕ) {a b left x y : ℕ} → Compared body a b left x y → w ≤ left → x + w ≤ length body → y + w ≤ length body
-      → le (take w (drop x body)) ≡ le (take w (drop y body)) → Compared body a b (left - w) (x + w) (y + w)
-  compared-bytes zero {a} {b} {left} {x} {y} k h hx hy e =
-      let d : left - 0 ≡ left = omega arith in
-      let p : x + 0 ≡ x = omega arith in
-      let q : y + 0 ≡ y = omega arith in
-      rw (d, p, q) k
-  compared-bytes (suc w) {a} {b} {left} {x} {y} k h hx hy e =
-      let u = first_byte w x hx in
-      let v = first_byte w y hy in
-      let same : num_at 1 body x ≡ num_at 1 body y = omega (arith, u.0, v.0, u.1, v.1, e) in
-      let rest : le (take w (drop (x + 1) body)) ≡ le (take w (drop (y + 1) body)) = omega (arith, u.0, v.0, u.1, v.1, e) in
-      let next = compared_same k (omega arith) refl refl (omega (arith, same)) (omega (arith, same)) in
-      let all = compared-bytes w next (omega arith) (omega arith) (omega arith) rest in
-      let d : left - suc w ≡ left - 1 - w = omega arith in
-      let p : x + suc w ≡ x + 1 + w = omega arith in
-      let q : y + suc w ≡ y + 1 + w = omega arith in
-      rw (d, p, q) all
+  pub compared-bytes : (w : ℕ) {a b i : ℕ} → Compared body a b i → i + w ≤ key_len → a + i + w ≤ length body → b + i + w ≤ length body
+      → le (take w (drop (a + i) body)) ≡ le (take w (drop (b + i) body)) → Compared body a b (i + w)
+  compared-bytes zero {a} {b} {i} k h hx hy e = rw add-zero k
+  compared-bytes (suc w) {a} {b} {i} k h hx hy e =
+      let u = first_byte w (a + i) hx in
+      let v = first_byte w (b + i) hy in
+      let p : a + i + 1 ≡ a + (i + 1) = omega arith in
+      let q : b + i + 1 ≡ b + (i + 1) = omega arith in
+      let same : num_at 1 body (a + i) ≡ num_at 1 body (b + i) = omega (arith, u.0, v.0, u.1, v.1, e) in
+      let rest : le (take w (drop (a + i + 1) body)) ≡ le (take w (drop (b + i + 1) body)) = omega (arith, u.0, v.0, u.1, v.1, e) in
+      let next = compared_same k (omega arith) refl refl same in
+      let all = compared-bytes w next (omega arith) (omega arith) (omega arith) (rw (p, q) at rest) in
+      let s : i + suc w ≡ i + 1 + w = omega arith in
+      rw s all
 
-  pub compared-word : {a b left x y : ℕ} {t : Bool} → Compared body a b left x y → t ≡ same_word body x y left → t ≡ true → PassedWord body a b left x y
+  pub compared-word : {a b i : ℕ} {t : Bool} → Compared body a b i → t ≡ same_word body (a + i) (b + i) (key_len - i) → t ≡ true → PassedWord body a b i
   unfolding same_word
-  compared-word {a} {b} {left} {x} {y} k e t =
-      let g = from-word (ltb left word_len) (leb (x + word_len) (length body)) (leb (y + word_len) (length body)) (num_at word_len body x) (num_at word_len body y) (sym t ∙ e) in
-      let long : word_len ≤ left = ltb-false left word_len g.0 in
+  compared-word {a} {b} {i} k e t =
+      let x = a + i in
+      let y = b + i in
+      let g = from-word (ltb (key_len - i) word_len) (leb (x + word_len) (length body)) (leb (y + word_len) (length body)) (num_at word_len body x) (num_at word_len body y) (sym t ∙ e) in
+      let long : i + word_len ≤ key_len = omega (arith, ltb-false (key_len - i) word_len g.0) in
       let hx : x + word_len ≤ length body = leb-true _ _ g.1 in
       let hy : y + word_len ≤ length body = leb-true _ _ g.2 in
       let u : le (take word_len (drop x body)) ≡ num_at word_len body x = num-within body x word_len refl hx in
@@ -137,56 +142,68 @@ module _ (body : List ℕ) (x y left : ℕ) where
   unfolding same_word
   word-past-y h e t f u = rw (le-ltb left word_len h, ← e, t, ← f, u)
 
--- keys of which the first are passed: what is left of them decides as the whole
-pub record Ascended (body : List ℕ) (n left at : ℕ) : Type 0 where
-  pub rest : ascending (keys_from left body at) ≡ ascending (keys_from n body members_at)
+-- keys of which those before key i are below the next: from key i - 1 on they ascend where all do
+pub record Ascended (body : List ℕ) (n i : ℕ) : Type 0 where
+  pub rest : ascending (keys_from (n + 1 - i) body (members_at + member_len * i - member_len)) ≡ ascending (keys_from n body members_at)
 
-pub ascended-none : (body : List ℕ) (n : ℕ) → Ascended body n n members_at
-ascended-none body n = record { rest = refl }
+pub ascended-none : (body : List ℕ) (n : ℕ) → Ascended body n 1
+ascended-none body n =
+    let e : n + 1 - 1 ≡ n = omega arith in
+    record { rest = rw e }
 
-module _ {body : List ℕ} {n left at : ℕ} (k : Ascended body n left at) where
-  ascended-step : 1 < left → cond (below (key_at body at) (key_at body (at + member_len))) (ascending (keys_from (left - 1) body (at + member_len))) false
+first_keys : (body : List ℕ) (j at : ℕ) → ascending (keys_from (suc (suc j)) body at)
+    ≡ cond (below (key_at body at) (key_at body (at + member_len))) (ascending (keys_from (suc j) body (at + member_len))) false
+unfolding ascending keys_from
+first_keys body j at = refl
+
+module _ {body : List ℕ} {n i : ℕ} (k : Ascended body n i) (some : 1 ≤ i) where
+  ascended-step : i < n → cond (below (key_at body (members_at + member_len * i - member_len)) (key_at body (members_at + member_len * i)))
+      (ascending (keys_from (n - i) body (members_at + member_len * i))) false
       ≡ ascending (keys_from n body members_at)
-  unfolding ascending keys_from
   ascended-step h =
-      let e : left ≡ suc (suc (left - 2)) = omega arith in
-      let f : left - 1 ≡ suc (left - 2) = omega arith in
-      rw f (rw e at k.rest)
+      let e : n + 1 - i ≡ suc (suc (n - i - 1)) = omega arith in
+      let f : n - i ≡ suc (n - i - 1) = omega arith in
+      let g : members_at + member_len * i - member_len + member_len ≡ members_at + member_len * i = omega arith in
+      rw f (sym (rw g at (first_keys body (n - i - 1) (members_at + member_len * i - member_len))) ∙ (rw e at k.rest))
 
-  pub ascended-more : {t : Bool} → 1 < left → t ≡ below (key_at body at) (key_at body (at + member_len)) → t ≡ true → Ascended body n (left - 1) (at + member_len)
-  ascended-more h e y = record { rest = rw (← e, y) at (ascended-step h) }
+  pub ascended-more : {t : Bool} → i < n → t ≡ below (key_at body (members_at + member_len * i - member_len)) (key_at body (members_at + member_len * i)) → t ≡ true → Ascended body n (i + 1)
+  ascended-more h e y =
+      let f : n + 1 - (i + 1) ≡ n - i = omega arith in
+      let g : members_at + member_len * (i + 1) - member_len ≡ members_at + member_len * i = omega arith in
+      record { rest = rw (f, g) (rw (← e, y) at (ascended-step h)) }
 
-  pub ascended-not : {t : Bool} → 1 < left → t ≡ below (key_at body at) (key_at body (at + member_len)) → t ≡ false → false ≡ ascending (keys_from n body members_at)
+  pub ascended-not : {t : Bool} → i < n → t ≡ below (key_at body (members_at + member_len * i - member_len)) (key_at body (members_at + member_len * i)) → t ≡ false
+      → false ≡ ascending (keys_from n body members_at)
   ascended-not h e y = rw (← e, y) at (ascended-step h)
 
-  pub ascended-all : left ≤ 1 → true ≡ ascending (keys_from n body members_at)
+  pub ascended-all : n ≤ i → true ≡ ascending (keys_from n body members_at)
   unfolding ascending keys_from
-  ascended-all h = few left h k.rest
+  ascended-all h = few (n + 1 - i) _ (omega arith) k.rest
     where
-      few : (j : ℕ) → j ≤ 1 → ascending (keys_from j body at) ≡ ascending (keys_from n body members_at) → true ≡ ascending (keys_from n body members_at)
-      few zero l e = e
-      few (suc zero) l e = e
-      few (suc (suc j)) l e = absurd (omega arith)
+      few : (j at : ℕ) → j ≤ 1 → ascending (keys_from j body at) ≡ ascending (keys_from n body members_at) → true ≡ ascending (keys_from n body members_at)
+      few zero at l e = e
+      few (suc zero) at l e = e
+      few (suc (suc j)) at l e = absurd (omega arith)
 
 -- ---- the setup
 
 module _ (body : List ℕ) {n own : ℕ} (e : n ≡ member_count body) (f : own ≡ own_place body) where
-  pub start-own : n ≤ own → Bad ≡ setup_at body
+  pub start-own : n ≤ own → None ≡ setup_at body
   unfolding setup_at
   start-own h = no_own (ascending (keys_in body))
     where
-      no_own : (b : Bool) → Bad ≡ cond b (cond (ltb (own_place body) (member_count body)) (setup_of (stakes_in body)) Bad) Bad
+      no_own : (b : Bool) → None ≡ cond b (cond (ltb (own_place body) (member_count body)) (setup_of (stakes_in body)) None) None
       no_own true = rw (← e, ← f, le-ltb own n h)
       no_own false = refl
 
-  pub start-many : own < n → members_max < n → Bad ≡ setup_at body
+  pub start-many : own < n → members_max < n → None ≡ setup_at body
   unfolding setup_at
   start-many l h = many (ascending (keys_in body))
     where
-      bad : Bad ≡ setup_of (stakes_in body)
+      bad : None ≡ setup_of (stakes_in body)
       bad = setup-many (stakes_in body) (λ z. omega (arith, length-stakes body)) (omega (arith, length-stakes body))
 
-      many : (b : Bool) → Bad ≡ cond b (cond (ltb (own_place body) (member_count body)) (setup_of (stakes_in body)) Bad) Bad
+      many : (b : Bool) → None ≡ cond b (cond (ltb (own_place body) (member_count body)) (setup_of (stakes_in body)) None) None
       many true = rw (← e, ← f, lt-ltb own n l) bad
       many false = refl
 
@@ -195,11 +212,11 @@ module _ (body : List ℕ) {n own : ℕ} (e : n ≡ member_count body) (f : own 
     unfolding keys_in
     keys = rw (← e) g
 
-    pub start-keys : t ≡ false → Bad ≡ setup_at body
+    pub start-keys : t ≡ false → None ≡ setup_at body
     unfolding setup_at
     start-keys y = rw (← keys, y)
 
-    pub start-good : t ≡ true → own < n → n ≤ members_max → {total : ℕ} {r : Setup} → total ≡ sum (stakes_in body) → r ≡ limited total → r ≡ setup_at body
+    pub start-good : t ≡ true → own < n → n ≤ members_max → {total : ℕ} {r : Option Stake} → total ≡ sum (stakes_in body) → r ≡ limited total → r ≡ setup_at body
     unfolding setup_at
     start-good y l h p q =
         rw (← keys, y) (rw (← f, ← e, lt-ltb own n l)
@@ -207,7 +224,7 @@ module _ (body : List ℕ) {n own : ℕ} (e : n ≡ member_count body) (f : own 
 
 -- ---- what a good setup is known for
 
-from-tests : (keys own : Bool) (r : Setup) (t : Stake) → cond keys (cond own r Bad) Bad ≡ Total t → (own ≡ true) × (r ≡ Total t)
+from-tests : (keys own : Bool) (r : Option Stake) (t : Stake) → cond keys (cond own r None) None ≡ Some t → (own ≡ true) × (r ≡ Some t)
 from-tests true true r t e = (refl, e)
 from-tests true false r t e = absurd (let z : ◌≡◌ {A = ℕ} 0 1 = cc in omega arith)
 from-tests false own r t e = absurd (let z : ◌≡◌ {A = ℕ} 0 1 = cc in omega arith)
@@ -216,9 +233,9 @@ pub record Started (body : List ℕ) (t : Stake) : Type 0 where
   pub some : 0 < member_count body
   pub few : member_count body ≤ members_max
   pub own : own_place body < member_count body
-  pub members : setup_of (stakes_in body) ≡ Total t
+  pub members : setup_of (stakes_in body) ≡ Some t
 
-pub started : (body : List ℕ) (t : Stake) → setup_at body ≡ Total t → Started body t
+pub started : (body : List ℕ) (t : Stake) → setup_at body ≡ Some t → Started body t
 unfolding setup_at
 started body t e =
     let k = from-tests (ascending (keys_in body)) (ltb (own_place body) (member_count body)) (setup_of (stakes_in body)) t e in
@@ -267,7 +284,7 @@ module _ (n : ℕ) (body : List ℕ) where
   loaded-members h = rw (← length-stakes body) (take-padded n (stakes_in body) (omega (arith, length-stakes body)))
 
 -- the committee that was loaded keeps the limits, as the body did
-pub loaded-setup : (n : ℕ) (body : List ℕ) (t : Stake) → members_max ≤ n → setup_at body ≡ Total t → setup_of (take (member_count body) (loaded_stakes n body)) ≡ Total t
+pub loaded-setup : (n : ℕ) (body : List ℕ) (t : Stake) → members_max ≤ n → setup_at body ≡ Some t → setup_of (take (member_count body) (loaded_stakes n body)) ≡ Some t
 loaded-setup n body t h e =
     let s = started body t e in
     let few : member_count body ≤ n = omega arith in

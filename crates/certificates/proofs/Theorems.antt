@@ -17,9 +17,9 @@ use mathlib.Core.List.{List, []}
 use mathlib.Core.Bool.{true, false}
 use native.Mathlib.Omega.{arith}
 use lib.ListN.{length, get_or}
+use Rattle.std.specs.Prelude.{Result, Ok}
 use Rattle.certificates.specs.declared.numbers.Signers.{Signers}
-use Rattle.certificates.specs.declared.messages.Checked.{Checked}
-use Rattle.certificates.specs.declared.messages.Checked.TheVariants.{Accepted}
+use Rattle.certificates.specs.declared.error.CertificateError.{CertificateError}
 use Rattle.certificates.specs.Config.{members_max, sum, stake_of, quorum_of}
 use Rattle.certificates.specs.Signers.{is_in, stake_in, words, no_signers, signers_of, weight_of, member, stake_on, shared}
 use Rattle.certificates.specs.Messages.{Form, qc_form, tc_form, verdict_in, count_of, places_in, check_part, qc_check, tc_check, equals_genesis, embedded_check}
@@ -44,8 +44,8 @@ pub record Justified (f : Form) (m part : List ℕ) : Type 0 where
   pub verdict : verdict_in f part ≡ 1
 
 -- whether a check accepts
-abbrev pub Accepts : Checked → Type 0
-Accepts r = (s : Signers) × (r ≡ Accepted s)
+abbrev pub Accepts : Result Signers CertificateError → Type 0
+Accepts r = (s : Signers) × (r ≡ Ok s)
 
 module _ (f : Form) (m part : List ℕ) (limits : length m ≤ members_max) where
   only-justified : Accepts (check_part f m (quorum_of m) part) → Justified f m part
@@ -86,7 +86,7 @@ module _ (m part : List ℕ) (limits : length m ≤ members_max) where
   pub embedded-accepted-iff : equals_genesis part ≡ false → Accepts (embedded_check m (quorum_of m) part) ↔ Justified qc_form m part
   embedded-accepted-iff other = rw (embedded-part m (quorum_of m) part other) (accepted-iff qc_form m part limits)
 
-pub genesis-accepted : (m : List ℕ) (need : ℕ) (part : List ℕ) → equals_genesis part ≡ true → embedded_check m need part ≡ Accepted no_signers
+pub genesis-accepted : (m : List ℕ) (need : ℕ) (part : List ℕ) → equals_genesis part ≡ true → embedded_check m need part ≡ Ok no_signers
 unfolding embedded_check
 genesis-accepted m need part same = rw same
 
@@ -100,7 +100,7 @@ pub record Shared (m ps qs : List ℕ) (p : ℕ) : Type 0 where
   pub staked : stake_of m p ≢ 0
 
 module _ (m : List ℕ) (f g : Form) (part part' : List ℕ) (v w : Signers)
-    (first : check_part f m (quorum_of m) part ≡ Accepted v) (second : check_part g m (quorum_of m) part' ≡ Accepted w) where
+    (first : check_part f m (quorum_of m) part ≡ Ok v) (second : check_part g m (quorum_of m) part' ≡ Ok w) where
   pub overlap : sum m < 3 * stake_on m (shared (places_in f part) (places_in g part'))
   unfolding weight_of
   overlap =

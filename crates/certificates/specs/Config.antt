@@ -5,11 +5,10 @@
 --     stake_of m p     the stake of place p; 0 where p is no member's
 --     quorum_from t    the quorum of a total
 --     quorum_of m      the quorum of a committee
---     limited t        the total, or `Bad` where it is above the limit
---     setup_of m       the total of a committee within the limits, else `Bad`
-use Rattle.std.specs.Prelude.{ℕ, ◌+◌, ◌*◌, ◌/◌, List, [], ◌∷◌, cond, length, get_or, eqb, ltb}
-use Rattle.certificates.specs.declared.config.Setup.{Setup}
-use Rattle.certificates.specs.declared.config.Setup.TheVariants.{Bad, Total}
+--     limited t        the total, or `None` where it is above the limit
+--     setup_of m       the total of a committee within the limits, else `None`
+use Rattle.std.specs.Prelude.{ℕ, ◌+◌, ◌*◌, ◌/◌, List, [], ◌∷◌, cond, length, get_or, eqb, ltb, Option, None, Some}
+use Rattle.certificates.specs.declared.numbers.Stake.{Stake}
 
 -- "1 to 64 members"
 abbrev pub members_max : ℕ
@@ -34,8 +33,8 @@ quorum_from t = 2 * t / 3 + 1
 unfoldable pub quorum_of : List ℕ → ℕ
 quorum_of m = quorum_from (sum m)
 
-unfoldable pub limited : ℕ → Setup
-limited t = cond (ltb total_max t) Bad (Total record { 0 = t })
+unfoldable pub limited : ℕ → Option Stake
+limited t = cond (ltb total_max t) None (Some record { 0 = t })
 
-unfoldable pub setup_of : List ℕ → Setup
-setup_of m = cond (eqb (length m) 0) Bad (cond (ltb members_max (length m)) Bad (limited (sum m)))
+unfoldable pub setup_of : List ℕ → Option Stake
+setup_of m = cond (eqb (length m) 0) None (cond (ltb members_max (length m)) None (limited (sum m)))

@@ -3,13 +3,13 @@
 --     number_of c quorum      of what a certificate's check found, `quorum` being the number for no quorum
 --     author_number a         of what an author's check found
 --     setup_number s          of what START's check found
-use Rattle.std.specs.Prelude.{ℕ}
-use Rattle.certificates.specs.declared.config.Setup.{Setup}
-use Rattle.certificates.specs.declared.config.Setup.TheVariants.{Bad, Total}
-use Rattle.certificates.specs.declared.messages.Checked.{Checked}
-use Rattle.certificates.specs.declared.messages.Checked.TheVariants.{Accepted, AuthorityReuse, UnknownAuthority, RequiresQuorum, InvalidSignature, Cut}
-use Rattle.certificates.specs.declared.messages.Authored.{Authored}
-use Rattle.certificates.specs.declared.messages.Authored.TheVariants as authored
+use Rattle.std.specs.Prelude.{ℕ, Option, None, Some, Result, Ok, Err}
+use Rattle.certificates.specs.declared.numbers.Signers.{Signers}
+use Rattle.certificates.specs.declared.numbers.Stake.{Stake}
+use Rattle.certificates.specs.declared.error.CertificateError.{CertificateError}
+use Rattle.certificates.specs.declared.error.CertificateError.TheVariants.{AuthorityReuse, UnknownAuthority, RequiresQuorum, InvalidSignature, Cut}
+use Rattle.certificates.specs.declared.error.AuthorError.{AuthorError}
+use Rattle.certificates.specs.declared.error.AuthorError.TheVariants as author
 
 -- "0 DONE, 1 STALE, 2 WAIT PARENT, 3 WAIT PAYLOAD": not refusals
 abbrev pub done : ℕ
@@ -95,19 +95,19 @@ not_started = 33
 abbrev pub started_again : ℕ
 started_again = 34
 
-abbrev pub number_of : Checked → ℕ → ℕ
-number_of (Accepted s) quorum = done
-number_of (AuthorityReuse p) quorum = authority_reuse
-number_of (UnknownAuthority p) quorum = unknown_authority
-number_of RequiresQuorum quorum = quorum
-number_of InvalidSignature quorum = invalid_signature
-number_of Cut quorum = bad_record
+abbrev pub number_of : Result Signers CertificateError → ℕ → ℕ
+number_of (Ok s) quorum = done
+number_of (Err (AuthorityReuse p)) quorum = authority_reuse
+number_of (Err (UnknownAuthority p)) quorum = unknown_authority
+number_of (Err RequiresQuorum) quorum = quorum
+number_of (Err InvalidSignature) quorum = invalid_signature
+number_of (Err Cut) quorum = bad_record
 
-abbrev pub author_number : Authored → ℕ
-author_number (authored.Valid s) = done
-author_number (authored.UnknownAuthority p) = unknown_authority
-author_number authored.InvalidSignature = invalid_signature
+abbrev pub author_number : Result Stake AuthorError → ℕ
+author_number (Ok s) = done
+author_number (Err (author.UnknownAuthority p)) = unknown_authority
+author_number (Err author.InvalidSignature) = invalid_signature
 
-abbrev pub setup_number : Setup → ℕ
-setup_number Bad = bad_setup
-setup_number (Total t) = done
+abbrev pub setup_number : Option Stake → ℕ
+setup_number None = bad_setup
+setup_number (Some t) = done

@@ -14,13 +14,14 @@
 --     equals_genesis part  whether the bytes are a QC that equals genesis
 --     embedded_check       the QC inside a block or a timeout
 --     author_check m p verdict   an author
-use Rattle.std.specs.Prelude.{ℕ, ◌+◌, ◌*◌, List, [], ◌∷◌, ◌++◌, Bool, true, false, cond, length, eqb, ltb, leb}
+use Rattle.std.specs.Prelude.{ℕ, ◌+◌, ◌*◌, List, [], ◌∷◌, ◌++◌, Bool, true, false, cond, length, eqb, ltb, leb, Result, Ok, Err}
 use Rattle.certificates.specs.declared.numbers.Hash.{Hash}
 use Rattle.certificates.specs.declared.numbers.Signers.{Signers}
-use Rattle.certificates.specs.declared.messages.Checked.{Checked}
-use Rattle.certificates.specs.declared.messages.Checked.TheVariants.{Accepted, AuthorityReuse, UnknownAuthority, RequiresQuorum, InvalidSignature, Cut}
-use Rattle.certificates.specs.declared.messages.Authored.{Authored}
-use Rattle.certificates.specs.declared.messages.Authored.TheVariants as authored
+use Rattle.certificates.specs.declared.numbers.Stake.{Stake}
+use Rattle.certificates.specs.declared.error.CertificateError.{CertificateError}
+use Rattle.certificates.specs.declared.error.CertificateError.TheVariants.{AuthorityReuse, UnknownAuthority, RequiresQuorum, InvalidSignature, Cut}
+use Rattle.certificates.specs.declared.error.AuthorError.{AuthorError}
+use Rattle.certificates.specs.declared.error.AuthorError.TheVariants as author
 use Rattle.certificates.specs.Numbers.{zero_hash, same_hash}
 use Rattle.certificates.specs.Num.{num_at, hash_at, nums_at}
 use Rattle.certificates.specs.Config.{members_max, stake_of}
@@ -63,38 +64,38 @@ unfoldable pub unknown_to : List ℕ → ℕ → Bool
 unknown_to m p = cond (ltb p members_max) (eqb (stake_of m p) 0) true
 
 -- "then the quorum; then the verdict"
-unfoldable pub settled_of : List ℕ → ℕ → Bool → List ℕ → Checked
-settled_of m need verdict ps = cond (ltb (stake_on m ps) need) RequiresQuorum (cond verdict (Accepted (signers_of ps)) InvalidSignature)
+unfoldable pub settled_of : List ℕ → ℕ → Bool → List ℕ → Result Signers CertificateError
+settled_of m need verdict ps = cond (ltb (stake_on m ps) need) (Err RequiresQuorum) (cond verdict (Ok (signers_of ps)) (Err InvalidSignature))
 
-unfoldable pub settled_by : List ℕ → ℕ → Bool → Signers → Checked
-settled_by m need verdict s = cond (ltb (weight_of m s) need) RequiresQuorum (cond verdict (Accepted s) InvalidSignature)
+unfoldable pub settled_by : List ℕ → ℕ → Bool → Signers → Result Signers CertificateError
+settled_by m need verdict s = cond (ltb (weight_of m s) need) (Err RequiresQuorum) (cond verdict (Ok s) (Err InvalidSignature))
 
 -- "walk signers in order, at each one REUSE first, then UNKNOWN"
-unfoldable pub check_from : List ℕ → ℕ → Bool → List ℕ → List ℕ → Checked
+unfoldable pub check_from : List ℕ → ℕ → Bool → List ℕ → List ℕ → Result Signers CertificateError
 check_from m need verdict seen [] = settled_of m need verdict seen
 check_from m need verdict seen (p ∷ ps) =
-    cond (member p seen) (AuthorityReuse record { 0 = p })
-    (cond (unknown_to m p) (UnknownAuthority record { 0 = p }) (check_from m need verdict (seen ++ p ∷ []) ps))
+    cond (member p seen) (Err (AuthorityReuse record { 0 = p }))
+    (cond (unknown_to m p) (Err (UnknownAuthority record { 0 = p })) (check_from m need verdict (seen ++ p ∷ []) ps))
 
-unfoldable pub check_part : Form → List ℕ → ℕ → List ℕ → Checked
-check_part f m need part = cond (is_whole f part) (check_from m need (eqb (verdict_in f part) 1) [] (places_in f part)) Cut
+unfoldable pub check_part : Form → List ℕ → ℕ → List ℕ → Result Signers CertificateError
+check_part f m need part = cond (is_whole f part) (check_from m need (eqb (verdict_in f part) 1) [] (places_in f part)) (Err Cut)
 
-unfoldable pub qc_check : List ℕ → ℕ → List ℕ → Checked
+unfoldable pub qc_check : List ℕ → ℕ → List ℕ → Result Signers CertificateError
 qc_check m need part = check_part qc_form m need part
 
 -- "A TC is checked the same way with its own quorum number, always."
-unfoldable pub tc_check : List ℕ → ℕ → List ℕ → Checked
+unfoldable pub tc_check : List ℕ → ℕ → List ℕ → Result Signers CertificateError
 tc_check m need part = check_part tc_form m need part
 
 unfoldable pub equals_genesis : List ℕ → Bool
 equals_genesis part = cond (leb qc_form.at (length part)) (is_genesis (hash_at part 0) (num_at 8 part 32)) false
 
 -- "A genesis-equal QC inside a block or timeout is not checked. Any other: .."
-unfoldable pub embedded_check : List ℕ → ℕ → List ℕ → Checked
-embedded_check m need part = cond (equals_genesis part) (Accepted no_signers) (qc_check m need part)
+unfoldable pub embedded_check : List ℕ → ℕ → List ℕ → Result Signers CertificateError
+embedded_check m need part = cond (equals_genesis part) (Ok no_signers) (qc_check m need part)
 
 -- ---- an author: "Unknown or stake 0; verdict"
-unfoldable pub author_check : List ℕ → ℕ → ℕ → Authored
+unfoldable pub author_check : List ℕ → ℕ → ℕ → Result Stake AuthorError
 author_check m p verdict =
-    cond (eqb (stake_of m p) 0) (authored.UnknownAuthority record { 0 = p })
-    (cond (eqb verdict 0) authored.InvalidSignature (authored.Valid record { 0 = stake_of m p }))
+    cond (eqb (stake_of m p) 0) (Err (author.UnknownAuthority record { 0 = p }))
+    (cond (eqb verdict 0) (Err author.InvalidSignature) (Ok record { 0 = stake_of m p }))

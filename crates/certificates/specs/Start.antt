@@ -9,12 +9,11 @@
 --     below k l            whether key k is strictly before key l by bytes: the first byte that differs decides
 --     same_word body x y left    whether the next 8 of so many bytes that are left lie in the body at both places, and are the same
 --     ascending ks         whether each key is below the next
---     setup_at body        the total where the body keeps 01's limits, else `Bad`
+--     setup_at body        the total where the body keeps 01's limits, else `None`
 --     padded n xs          the first n of a list, with 0 where it has ended
 --     loaded_stakes n body  n stakes by place: the members', then 0
-use Rattle.std.specs.Prelude.{ℕ, zero, suc, ◌+◌, List, [], ◌∷◌, Bool, true, false, cond, eqb, ltb, leb, length}
-use Rattle.certificates.specs.declared.config.Setup.{Setup}
-use Rattle.certificates.specs.declared.config.Setup.TheVariants.{Bad}
+use Rattle.std.specs.Prelude.{ℕ, zero, suc, ◌+◌, List, [], ◌∷◌, Bool, true, false, cond, eqb, ltb, leb, length, Option, None}
+use Rattle.certificates.specs.declared.numbers.Stake.{Stake}
 use Rattle.certificates.specs.Num.{num_at, nums_at}
 use Rattle.certificates.specs.Config.{setup_of}
 
@@ -69,8 +68,8 @@ ascending (k ∷ []) = true
 ascending (k ∷ l ∷ ks) = cond (below k l) (ascending (l ∷ ks)) false
 
 -- "1 to 64 members, 32-byte keys strictly ascending, total stake at most 2^31-1, own place below the member count"
-unfoldable pub setup_at : List ℕ → Setup
-setup_at body = cond (ascending (keys_in body)) (cond (ltb (own_place body) (member_count body)) (setup_of (stakes_in body)) Bad) Bad
+unfoldable pub setup_at : List ℕ → Option Stake
+setup_at body = cond (ascending (keys_in body)) (cond (ltb (own_place body) (member_count body)) (setup_of (stakes_in body)) None) None
 
 unfoldable pub padded : ℕ → List ℕ → List ℕ
 padded zero xs = []

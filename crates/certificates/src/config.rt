@@ -27,22 +27,12 @@ const KEY_LEN: usize = 32;
 // The bytes of a word, by which keys are compared first.
 const WORD: usize = 8;
 
-// Whether a committee keeps the limits, and its total stake where it does.
-#[derive(Clone, Copy)]
-pub enum Setup {
-    Bad,
-    Total(Stake),
-}
-
 // The stake of a place, which is 0 where the place is no member's.
+#[tactic(auto, unfolding(crate::specs::Config::stake_of))]
 pub fn stake(members: &[u32], place: Place) -> Stake
     ensures { result.0 ≡ stake_of members.now place.0 }
 {
-    let p = place.0 as usize;
-    if p < members.len() {
-        return Stake(members[p]);
-    }
-    Stake(0)
+    Stake(members.get(place.0 as usize).copied().unwrap_or(0))
 }
 
 // Two thirds of the total, rounded down, and one more.
@@ -54,29 +44,23 @@ pub fn quorum_threshold(total: Stake) -> Stake
     Stake(q as u32)
 }
 
-// The limit of the total.
-fn limit(total: u64) -> Setup
+// The total, where it keeps the limit.
+fn limit(total: u64) -> Option<Stake>
     ensures { result ≡ limited total }
 {
     if TOTAL_MAX < total {
-        return Setup::Bad;
+        return None;
     }
-    Setup::Total(Stake(total as u32))
+    Some(Stake(total as u32))
 }
 
 // The stake of so few members that the sum fits.
+#[tactic(auto, using(crate::proofs::ConfigLaws::sum_all))]
 fn sum_any(members: &[u32]) -> u64
     requires { length members.now ≤ members_max }
     ensures { result ≡ sum members.now }
 {
-    let mut sum: u64 = 0;
-    let mut i = 0;
-    while i < members.len() {
-        let s = members[i];
-        sum += s as u64;
-        i += 1;
-    }
-    sum
+    members.iter().map(|s| u64::from(*s)).sum()
 }
 
 // The same. Where no stake is large, which `all` tells, the sum fits 32 bits: every event asks for it, and
@@ -87,29 +71,26 @@ fn sum_stakes(members: &[u32]) -> u64
 {
     let mut all: u32 = 0;
     let mut sum: u32 = 0;
-    let mut i = 0;
-    while i < members.len() {
-        let s = members[i];
-        all = all | s;
-        sum += s % LARGE;
-        i += 1;
+    for stake in members {
+        all |= *stake;
+        sum += *stake % LARGE;
     }
     if all < LARGE {
-        return sum as u64;
+        return u64::from(sum);
     }
     sum_any(members)
 }
 
-// The total stake of a committee: `Bad` without members, with too many, or with too much stake.
-pub fn total_stake(members: &[u32]) -> Setup
+// The total stake of a committee: none without members, with too many, or with too much stake.
+pub fn total_stake(members: &[u32]) -> Option<Stake>
     ensures { result ≡ setup_of members.now }
 {
     let n = members.len();
     if n == 0 {
-        return Setup::Bad;
+        return None;
     }
     if MEMBERS_MAX < n {
-        return Setup::Bad;
+        return None;
     }
     limit(sum_stakes(members))
 }
@@ -145,12 +126,9 @@ fn sum_in(body: &[u8], n: usize) -> u64
     requires { (n ≡ member_count body.now) × (n ≤ members_max) }
     ensures { result ≡ sum (stakes_in body.now) }
 {
-    let mut sum: u64 = 0;
-    let mut i = 0;
-    while i < n {
-        let s = stake_in(body, i);
-        sum += s as u64;
-        i += 1;
+    let mut sum = 0;
+    for i in 0..n {
+        sum += u64::from(stake_in(body, i));
     }
     sum
 }
@@ -176,26 +154,15 @@ fn key_below(body: &[u8], a: usize, b: usize) -> bool
     requires { (a ≤ members_at + member_len * members_max) × (b ≤ members_at + member_len * members_max) }
     ensures { result ≡ below (key_at body.now a) (key_at body.now b) }
 {
-    let mut x = a;
-    let mut y = b;
-    let mut left = KEY_LEN;
-    while 0 < left {
-        if is_word_same(body, x, y, left) {
-            x += WORD;
-            y += WORD;
-            left -= WORD;
-        } else {
-            let u = u8_at(body, x);
-            let v = u8_at(body, y);
-            if u < v {
-                return true;
-            }
-            if v < u {
-                return false;
-            }
-            x += 1;
-            y += 1;
-            left -= 1;
+    let mut same = 0;
+    while is_word_same(body, a + same, b + same, KEY_LEN - same) {
+        same += WORD;
+    }
+    for i in same..KEY_LEN {
+        let u = u8_at(body, a + i);
+        let v = u8_at(body, b + i);
+        if u != v {
+            return u < v;
         }
     }
     false
@@ -206,45 +173,39 @@ fn keys_ascend(body: &[u8], n: usize) -> bool
     requires { n ≤ members_max }
     ensures { result ≡ ascending (keys_from n body.now members_at) }
 {
-    let mut at = MEMBERS_AT;
-    let mut left = n;
-    while 1 < left {
-        let next = at + MEMBER_LEN;
-        if key_below(body, at, next) {
-            at = next;
-            left -= 1;
-        } else {
+    for i in 1..n {
+        let at = MEMBERS_AT + MEMBER_LEN * i;
+        if !key_below(body, at - MEMBER_LEN, at) {
             return false;
         }
     }
     true
 }
 
-// START's body: its members keep the limits, their keys ascend, and the own place is one of theirs.
-pub fn check_setup(body: &[u8]) -> Setup
+// The total stake in START's body, where its members keep the limits, their keys ascend, and the own place is
+// one of theirs.
+pub fn check_setup(body: &[u8]) -> Option<Stake>
     ensures { result ≡ setup_at body.now }
 {
     let n = member_count(body) as usize;
     let own = own_place(body);
     if n <= own.0 as usize {
-        return Setup::Bad;
+        return None;
     }
     if MEMBERS_MAX < n {
-        return Setup::Bad;
+        return None;
     }
     if keys_ascend(body, n) {
         return limit(sum_in(body, n));
     }
-    Setup::Bad
+    None
 }
 
 // The stakes of START's body into a lent slice: member by member, and 0 past the last.
 pub fn load(stakes: &mut [u32], body: &[u8])
     ensures { stakes.new ≡ loaded_stakes (length stakes.old) body.now }
 {
-    let mut i = 0;
-    while i < stakes.len() {
-        stakes[i] = stake_in(body, i);
-        i += 1;
+    for (i, stake) in stakes.iter_mut().enumerate() {
+        *stake = stake_in(body, i);
     }
 }

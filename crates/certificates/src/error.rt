@@ -1,9 +1,29 @@
-// The numbers that the host sees (01), in 01's order: error.rs became numbers.
+// What the checks of certificates and of authors refuse, and the numbers that the host sees (01), in 01's
+// order: error.rs became numbers.
 ghost use Rattle.std.specs.Prelude.{◌≡◌};
 ghost use Rattle.certificates.specs.Error.{number_of, author_number, setup_number};
 
-use crate::config::Setup;
-use crate::messages::{Authored, Checked};
+use crate::numbers::{Place, Signers, Stake};
+
+// Why a certificate is refused.
+#[derive(Clone, Copy, Debug, PartialEq, Eq)]
+pub enum CertificateError {
+    // The first signer that is named again.
+    AuthorityReuse(Place),
+    // The first signer without stake.
+    UnknownAuthority(Place),
+    RequiresQuorum,
+    InvalidSignature,
+    // The bytes end before the list of signers does.
+    Cut,
+}
+
+// Why an author is refused.
+#[derive(Clone, Copy, Debug, PartialEq, Eq)]
+pub enum AuthorError {
+    UnknownAuthority(Place),
+    InvalidSignature,
+}
 
 // Not refusals.
 pub const DONE: u16 = 0;
@@ -62,36 +82,36 @@ pub const NOT_STARTED: u16 = 33;
 pub const STARTED_AGAIN: u16 = 34;
 
 // The number of what a certificate's check found, where `quorum` is the one for no quorum.
-pub fn number_of(c: Checked, quorum: u16) -> u16
+pub fn number_of(c: Result<Signers, CertificateError>, quorum: u16) -> u16
     ensures { result ≡ number_of c quorum }
 {
     match c {
-        Checked::Accepted(_) => DONE,
-        Checked::AuthorityReuse(_) => AUTHORITY_REUSE,
-        Checked::UnknownAuthority(_) => UNKNOWN_AUTHORITY,
-        Checked::RequiresQuorum => quorum,
-        Checked::InvalidSignature => INVALID_SIGNATURE,
-        Checked::Cut => BAD_RECORD,
+        Ok(Signers(_)) => DONE,
+        Err(CertificateError::AuthorityReuse(_)) => AUTHORITY_REUSE,
+        Err(CertificateError::UnknownAuthority(_)) => UNKNOWN_AUTHORITY,
+        Err(CertificateError::RequiresQuorum) => quorum,
+        Err(CertificateError::InvalidSignature) => INVALID_SIGNATURE,
+        Err(CertificateError::Cut) => BAD_RECORD,
     }
 }
 
 // The number of what an author's check found.
-pub fn author_number(a: Authored) -> u16
+pub fn author_number(a: Result<Stake, AuthorError>) -> u16
     ensures { result ≡ author_number a }
 {
     match a {
-        Authored::Valid(_) => DONE,
-        Authored::UnknownAuthority(_) => UNKNOWN_AUTHORITY,
-        Authored::InvalidSignature => INVALID_SIGNATURE,
+        Ok(Stake(_)) => DONE,
+        Err(AuthorError::UnknownAuthority(_)) => UNKNOWN_AUTHORITY,
+        Err(AuthorError::InvalidSignature) => INVALID_SIGNATURE,
     }
 }
 
 // The number of what the check of a setup found.
-pub fn setup_number(s: Setup) -> u16
+pub fn setup_number(s: Option<Stake>) -> u16
     ensures { result ≡ setup_number s }
 {
     match s {
-        Setup::Bad => BAD_SETUP,
-        Setup::Total(_) => DONE,
+        Some(Stake(_)) => DONE,
+        None => BAD_SETUP,
     }
 }

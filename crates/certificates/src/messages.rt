@@ -5,8 +5,9 @@ ghost use Rattle.certificates.specs.Num.{num_at, nums_at};
 ghost use Rattle.certificates.specs.Messages.{is_genesis, author_check, unknown_to, settled_by, check_from, check_part, qc_check, tc_check, equals_genesis, embedded_check};
 
 use crate::config::{MEMBERS_MAX, stake};
+use crate::error::{AuthorError, CertificateError};
 use crate::num::{hash_at, raw16, u8_at, u16_at, u64_at};
-use crate::numbers::{Hash, Place, Round, Signers, Stake, same_hash};
+use crate::numbers::{Hash, Place, Round, Signers, Stake};
 use crate::signers::weight;
 
 // Where the verdict of a QC and of a TC stands, and how long an entry of their lists is.
@@ -26,56 +27,26 @@ pub struct QC {
     pub signers: Signers,
 }
 
-// What the check of a certificate finds.
-#[derive(Clone, Copy)]
-pub enum Checked {
-    Accepted(Signers),
-    // The first signer that is named again.
-    AuthorityReuse(Place),
-    // The first signer without stake.
-    UnknownAuthority(Place),
-    RequiresQuorum,
-    InvalidSignature,
-    // The bytes end before the list of signers does.
-    Cut,
-}
-
-// What the check of an author finds: its stake where it is valid.
-#[derive(Clone, Copy)]
-pub enum Authored {
-    Valid(Stake),
-    UnknownAuthority(Place),
-    InvalidSignature,
-}
-
 // Whether a QC of this hash and round equals genesis: signers and verdict do not count.
+#[tactic(auto, unfolding(crate::specs::Messages::is_genesis))]
 pub fn is_genesis(hash: Hash, round: Round) -> bool
     ensures { result ≡ is_genesis hash round.0 }
 {
-    let zero = Hash {
-        a: 0,
-        b: 0,
-        c: 0,
-        d: 0,
-    };
-    if same_hash(hash, zero) {
-        return round.0 == 0;
-    }
-    false
+    hash == Hash::ZERO && round.0 == 0
 }
 
-// Ensure the authority has voting rights, then check the signature.
-pub fn check_author(members: &[u32], author: Place, verdict: u8) -> Authored
+// Ensure the authority has voting rights, then check the signature: the stake of a valid author.
+pub fn check_author(members: &[u32], author: Place, verdict: u8) -> Result<Stake, AuthorError>
     ensures { result ≡ author_check members.now author.0 verdict }
 {
     let held = stake(members, author);
     if held.0 == 0 {
-        return Authored::UnknownAuthority(author);
+        return Err(AuthorError::UnknownAuthority(author));
     }
     if verdict == 0 {
-        return Authored::InvalidSignature;
+        return Err(AuthorError::InvalidSignature);
     }
-    Authored::Valid(held)
+    Ok(held)
 }
 
 // The place in entry `i` of the list at `at`, whose entries are `stride` bytes each.
@@ -98,17 +69,22 @@ fn is_unknown(members: &[u32], p: Place) -> bool
 }
 
 // Signers of whom each is known and none is named twice: the quorum, and then the verdict.
-fn settle(members: &[u32], need: Stake, verdict: bool, s: Signers) -> Checked
+fn settle(
+    members: &[u32],
+    need: Stake,
+    verdict: bool,
+    s: Signers,
+) -> Result<Signers, CertificateError>
     ensures { result ≡ settled_by members.now need.0 verdict s }
 {
     let held = weight(members, s);
     if held < need.0 as u64 {
-        return Checked::RequiresQuorum;
+        return Err(CertificateError::RequiresQuorum);
     }
     if verdict {
-        Checked::Accepted(s)
+        Ok(s)
     } else {
-        Checked::InvalidSignature
+        Err(CertificateError::InvalidSignature)
     }
 }
 
@@ -122,7 +98,7 @@ fn check_list(
     stride: usize,
     n: usize,
     verdict: bool,
-) -> Checked
+) -> Result<Signers, CertificateError>
     requires { (2 ≤ stride) × (at + stride * n ≤ length part.now) }
     ensures { result ≡ check_from members.now need.0 verdict [] (nums_at 2 stride n part.now at) }
 {
@@ -137,12 +113,12 @@ fn check_list(
         while j < i {
             let q = place_at(part, at, stride, j);
             if q.0 == p.0 {
-                break 'signers Checked::AuthorityReuse(p);
+                break 'signers Err(CertificateError::AuthorityReuse(p));
             }
             j += 1;
         }
         if is_unknown(members, p) {
-            break 'signers Checked::UnknownAuthority(p);
+            break 'signers Err(CertificateError::UnknownAuthority(p));
         }
         word |= 1u64 << p.0;
         i += 1;
@@ -151,7 +127,13 @@ fn check_list(
 }
 
 // The end of a certificate, from `at` on: verdict 1, count 2, then the entries.
-fn check_tail(members: &[u32], need: Stake, part: &[u8], at: usize, stride: usize) -> Checked
+fn check_tail(
+    members: &[u32],
+    need: Stake,
+    part: &[u8],
+    at: usize,
+    stride: usize,
+) -> Result<Signers, CertificateError>
     requires { (at ≤ 40) × (2 ≤ stride) × (stride ≤ 10) }
     ensures { result ≡ check_part record { at = at; stride = stride } members.now need.0 part.now }
 {
@@ -159,20 +141,20 @@ fn check_tail(members: &[u32], need: Stake, part: &[u8], at: usize, stride: usiz
     let n = u16_at(part, at + 1) as usize;
     let head = at + 3;
     if part.len() < head + stride * n {
-        return Checked::Cut;
+        return Err(CertificateError::Cut);
     }
     check_list(members, need, part, head, stride, n, verdict == 1)
 }
 
 // QC::verify: hash 32 and round 8 stand before its end, and an entry is a place.
-pub fn check_qc(members: &[u32], need: Stake, part: &[u8]) -> Checked
+pub fn check_qc(members: &[u32], need: Stake, part: &[u8]) -> Result<Signers, CertificateError>
     ensures { result ≡ qc_check members.now need.0 part.now }
 {
     check_tail(members, need, part, QC_VERDICT, QC_ENTRY)
 }
 
 // TC::verify: round 8 stands before its end, and an entry is a place and a high round.
-pub fn check_tc(members: &[u32], need: Stake, part: &[u8]) -> Checked
+pub fn check_tc(members: &[u32], need: Stake, part: &[u8]) -> Result<Signers, CertificateError>
     ensures { result ≡ tc_check members.now need.0 part.now }
 {
     check_tail(members, need, part, TC_VERDICT, TC_ENTRY)
@@ -191,11 +173,15 @@ pub fn equals_genesis(part: &[u8]) -> bool
 }
 
 // The QC inside a block or a timeout: one that equals genesis is not checked, and names no signers.
-pub fn check_embedded_qc(members: &[u32], need: Stake, part: &[u8]) -> Checked
+pub fn check_embedded_qc(
+    members: &[u32],
+    need: Stake,
+    part: &[u8],
+) -> Result<Signers, CertificateError>
     ensures { result ≡ embedded_check members.now need.0 part.now }
 {
     if equals_genesis(part) {
-        return Checked::Accepted(Signers(0));
+        return Ok(Signers(0));
     }
     check_qc(members, need, part)
 }

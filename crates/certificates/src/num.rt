@@ -94,11 +94,6 @@ pub fn hash_at(s: &[u8], at: usize) -> Hash
     if holds(s, at, 32) {
         raw_hash(s, at)
     } else {
-        Hash {
-            a: 0,
-            b: 0,
-            c: 0,
-            d: 0,
-        }
+        Hash::ZERO
     }
 }

@@ -1,57 +1,30 @@
--- `certificates::config::key_below` meets its contract. The loop's invariant: what is left of the two keys decides as the whole. The measure is
--- what is left. Assumes nothing.
+-- `certificates::config::key_below` meets its contract: a law for none, for a word that is passed, for a byte, and for each way out. Assumes nothing.
 use borrow.Author.Rules.{rules}
 use native.Mathlib.Omega.{arith}
-use Rattle.certificates.proofs.StartLaws.{PassedWord, compared-word, compared-none, compared-less, compared-more, compared_same, compared-all}
+use Rattle.certificates.proofs.StartLaws.{PassedWord, compared-word, compared-none, compared-other, compared_same, compared-all}
 use Rattle.certificates.proofs.config.key_below.Goals as goal
-use Rattle.certificates.proofs.config.key_below.Goals.{Then-is_word_same}
+use Rattle.certificates.proofs.config.key_below.Goals.{In-loop-same}
 
-pub loop-left-init : goal.loop-left-init
-loop-left-init c = (omega arith, omega arith, compared-none _ _ _)
+pub loop-same-init : goal.loop-same-init
+loop-same-init c = (omega arith, compared-none _ _ _)
 
 -- eight bytes are passed
-passed : (c : Then-is_word_same)
-    → PassedWord c.args.body.now c.args.a
-    c.args.b c.loop-left.left c.loop-left.x c.loop-left.y
+passed : (c : In-loop-same) → PassedWord c.args.body.now c.args.a c.args.b c.loop-same.same
 passed c =
     compared-word c.args.body.now (λ i. omega (arith, c.type_inv.body i))
-    c.loop-left.invariant.2 c.is_word_same.ensures c.if-is_word_same.true
+    c.loop-same.invariant.1 c.is_word_same.ensures c.loop-same-test.true
 
-pub overflow_add-x : goal.overflow_add-x
-overflow_add-x c = omega arith
+pub loop-same-smaller : goal.loop-same-smaller
+loop-same-smaller c = omega (arith, (passed c).long)
 
-pub overflow_add-y : goal.overflow_add-y
-overflow_add-y c = omega arith
-
-pub overflow_sub-left : goal.overflow_sub-left
-overflow_sub-left c = omega (arith, (passed (goal.at.overflow_sub-left c).Then-is_word_same).long)
-
-pub loop-left-smaller-then-is_word_same : goal.loop-left-smaller-then-is_word_same
-loop-left-smaller-then-is_word_same c = omega (arith, (passed (goal.at.loop-left-smaller-then-is_word_same c).Then-is_word_same).long)
-
-pub loop-left-preserved-then-is_word_same : goal.loop-left-preserved-then-is_word_same
-loop-left-preserved-then-is_word_same c = (omega (arith, (passed (goal.at.loop-left-preserved-then-is_word_same c).Then-is_word_same).long), omega (arith, (passed (goal.at.loop-left-preserved-then-is_word_same c).Then-is_word_same).long), (passed (goal.at.loop-left-preserved-then-is_word_same c).Then-is_word_same).next)
+pub loop-same-preserved : goal.loop-same-preserved
+loop-same-preserved c = ((passed c).long, (passed c).next)
 
 pub returns-then-u-v : goal.returns-then-u-v
-returns-then-u-v c = search (rules, compared-less)
+returns-then-u-v c = search (rules, compared-other)
 
-pub returns-then-v-u : goal.returns-then-v-u
-returns-then-v-u c = search (rules, compared-more)
-
-pub overflow_add-x-else-is_word_same : goal.overflow_add-x-else-is_word_same
-overflow_add-x-else-is_word_same c = omega arith
-
-pub overflow_add-y-else-is_word_same : goal.overflow_add-y-else-is_word_same
-overflow_add-y-else-is_word_same c = omega arith
-
-pub overflow_sub-left-else-is_word_same : goal.overflow_sub-left-else-is_word_same
-overflow_sub-left-else-is_word_same c = omega arith
-
-pub loop-left-smaller : goal.loop-left-smaller
-loop-left-smaller c = omega arith
-
-pub loop-left-preserved : goal.loop-left-preserved
-loop-left-preserved c = (omega arith, omega arith, search (rules, compared_same))
+pub loop-i-preserved : goal.loop-i-preserved
+loop-i-preserved c = search (rules, compared_same)
 
 pub returns : goal.returns
-returns c = compared-all c.loop-left.invariant.2 (omega arith)
+returns c = search (rules, compared-all)
