@@ -2,6 +2,9 @@
 use mathlib.Core.Path.{◌≡◌, refl, sym, ◌∙◌}
 use mathlib.Core.Bool.{Bool, true, false, not, cond}
 use mathlib.Core.List.{List, [], ◌∷◌}
+use Rattle.std.specs.Prelude.{Some, None, Result, Ok, Err}
+use Rattle.std.specs.Result.{result_ok}
+use Rattle.std.specs.Bool.{then_some}
 use Prim.Native.Nat.{ℕ, ◌+◌, ◌*◌, ◌≤◌, ◌<◌}
 use native.Mathlib.Omega.{arith}
 use lib.ListN.{length, get_or}
@@ -10,16 +13,13 @@ use borrow.Author.Tests.{lt-ltb, le-ltb, eq-eqb, ne_eqb, not-true, not-false}
 use Rattle.certificates.specs.Num.{num_at}
 use Rattle.trace.specs.Record.{record_max}
 use Rattle.trace.specs.Layout.{flag_at, tc_at, block_end, payload_of}
-use Rattle.trace.specs.Form.{kind_of, size_of, marks_of, payloads_of, any_above, block_marks, are_marks, is_formed, form_of}
+use Rattle.trace.specs.Form.{kind_of, Numbered, size_of, marks_of, payloads_of, any_above, block_marks, are_marks, is_formed, form_if, form_of}
 use Rattle.trace.specs.declared.events.Kind.{Kind}
-use Rattle.trace.specs.declared.events.Kind.TheVariants.{Bad, Start, Propose, Vote, Timeout, Tc, Loopback, Tick}
+use Rattle.trace.specs.declared.events.Kind.TheVariants.{Start, Propose, Vote, Timeout, Tc, Loopback, Tick}
+use Rattle.trace.specs.declared.events.UnknownKind.{UnknownKind}
 use Rattle.trace.proofs.Bounds.{one-within, any_here, any-later}
 
 -- ---- any kind
-
-none : (t : Bool) → Bad ≡ cond t Bad Bad
-none true = refl
-none false = refl
 
 any_none : (m : ℕ) → any_above m [] ≡ false
 unfolding any_above
@@ -140,45 +140,27 @@ module _ (s : List ℕ) where
 
   -- ---- the kind decides
 
-  pub form-short : length s < 2 → Bad ≡ form_of s
+  pub form-short : length s < 2 → None ≡ form_of s
   unfolding form_of
   form-short h = rw (lt-ltb _ _ h)
 
-  pub form-long : 2 ≤ length s → record_max < length s → Bad ≡ form_of s
+  pub form-long : 2 ≤ length s → record_max < length s → None ≡ form_of s
   unfolding form_of
   form-long h l = rw (le-ltb _ _ h, lt-ltb _ _ l)
 
   module _ {n : ℕ} (h : 2 ≤ length s) (l : length s ≤ record_max) (e : n ≡ num_at 2 s 0) where
-    by_kind : cond (is_formed s (kind_of n)) (kind_of n) Bad ≡ form_of s
+    by_kind : form_if s (kind_of n) ≡ form_of s
     unfolding form_of
     by_kind = rw (le-ltb _ _ h, le-ltb _ _ l, ← e)
 
-    module _ {t : Bool} {k : Kind} where
-      pub form-start : n ≡ 1 → t ≡ is_formed s Start → k ≡ cond t Start Bad → k ≡ form_of s
-      form-start z f g = g ∙ rw (z, ← f) at by_kind
+    pub form-unknown : (x : Result Kind UnknownKind) → Numbered n x → None ≡ result_ok x → None ≡ form_of s
+    form-unknown (Ok k) z q = absurd (cc)
+    form-unknown (Err u) z q = rw z.1 at by_kind
 
-      pub form-propose : n ≡ 2 → t ≡ is_formed s Propose → k ≡ cond t Propose Bad → k ≡ form_of s
-      form-propose z f g = g ∙ rw (z, ← f) at by_kind
-
-      pub form-vote : n ≡ 3 → t ≡ is_formed s Vote → k ≡ cond t Vote Bad → k ≡ form_of s
-      form-vote z f g = g ∙ rw (z, ← f) at by_kind
-
-      pub form-timeout : n ≡ 4 → t ≡ is_formed s Timeout → k ≡ cond t Timeout Bad → k ≡ form_of s
-      form-timeout z f g = g ∙ rw (z, ← f) at by_kind
-
-      pub form-tc : n ≡ 5 → t ≡ is_formed s Tc → k ≡ cond t Tc Bad → k ≡ form_of s
-      form-tc z f g = g ∙ rw (z, ← f) at by_kind
-
-      pub form-loopback : n ≡ 6 → t ≡ is_formed s Loopback → k ≡ cond t Loopback Bad → k ≡ form_of s
-      form-loopback z f g = g ∙ rw (z, ← f) at by_kind
-
-    pub form-tick : {k : Kind} → n ≡ 7 → k ≡ cond (eqb (length s) 2) Tick Bad → k ≡ form_of s
-    form-tick z g = g ∙ rw (z, ← tick-form) at by_kind
-
-    pub form-zero : n ≡ 0 → Bad ≡ form_of s
-    form-zero z = none (is_formed s Bad) ∙ rw z at by_kind
-
-    pub form-unknown : (n ≡ 1 → ⊥) → (n ≡ 2 → ⊥) → (n ≡ 3 → ⊥) → (n ≡ 4 → ⊥) → (n ≡ 5 → ⊥) → (n ≡ 6 → ⊥) → (n ≡ 7 → ⊥) → Bad ≡ form_of s
-    form-unknown a b c d f g i =
-        none (is_formed s Bad)
-        ∙ rw (ne_eqb _ _ a, ne_eqb _ _ b, ne_eqb _ _ c, ne_eqb _ _ d, ne_eqb _ _ f, ne_eqb _ _ g, ne_eqb _ _ i) at by_kind
+    pub form-known : (x : Result Kind UnknownKind) {k : Kind} {t : Bool} → Numbered n x → Some k ≡ result_ok x → t ≡ is_formed s k → then_some t k ≡ form_of s
+    form-known (Ok j) {k} {t} z q g = let i : j ≡ k = cc in same t ∙ rw (z, i, ← g) at by_kind
+      where
+        same : (t : Bool) → then_some t k ≡ cond t (Some k) None
+        same true = refl
+        same false = refl
+    form-known (Err u) z q g = absurd (cc)

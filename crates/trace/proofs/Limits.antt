@@ -1,6 +1,7 @@
 -- The limits of a record: one law for each way out of the functions of `events` that test them. Assumes nothing.
 use mathlib.Core.Path.{◌≡◌, refl, ◌∙◌}
 use mathlib.Core.Bool.{false}
+use mathlib.Core.Logic.{◌⊎◌, inl, inr}
 use mathlib.Core.List.{List}
 use Prim.Native.Nat.{ℕ, max, ◌+◌, ◌≤◌, ◌<◌}
 use native.Mathlib.Omega.{arith}
@@ -11,7 +12,7 @@ use Rattle.trace.specs.Layout.{signers_max, tc_part, tc_rounds, tc_at, largest, 
 use Rattle.trace.specs.Form.{any_above}
 use Rattle.trace.specs.Limits.{counts_of, rounds_of, block_counts, block_rounds, empty_tc, bounded, limit_of}
 use Rattle.trace.specs.declared.events.Kind.{Kind}
-use Rattle.trace.specs.declared.events.Kind.TheVariants.{Bad, Start, Propose, Vote, Timeout, Tc, Loopback, Tick}
+use Rattle.trace.specs.declared.events.Kind.TheVariants.{Start, Propose, Vote, Timeout, Tc, Loopback, Tick}
 use Rattle.trace.proofs.Bounds.{any-largest, largest-one, largest-cons}
 
 module _ (c x : ℕ) where
@@ -33,17 +34,10 @@ unfolding limit_of bounded
 limit-bounded s k e = rw (e, any-largest signers_max (counts_of s k), any-largest round_max (rounds_of s k))
 
 module _ (s : List ℕ) where
-  pub limit-none : {k : Kind} → k ≡ Bad → 0 ≡ limit_of s k
+  pub limit-none : {k : Kind} → (k ≡ Start) ⊎ (k ≡ Tick) → 0 ≡ limit_of s k
   unfolding limit_of any_above
-  limit-none e = rw e
-
-  pub limit-start : {k : Kind} → k ≡ Start → 0 ≡ limit_of s k
-  unfolding limit_of any_above
-  limit-start e = rw e
-
-  pub limit-tick : {k : Kind} → k ≡ Tick → 0 ≡ limit_of s k
-  unfolding limit_of any_above
-  limit-tick e = rw e
+  limit-none (inl e) = rw e
+  limit-none (inr e) = rw e
 
   pub limit-vote : {k : Kind} {x n : ℕ} → k ≡ Vote → x ≡ num_at 8 s 34 → n ≡ bounded 0 x → n ≡ limit_of s k
   unfolding largest

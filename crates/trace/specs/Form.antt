@@ -1,5 +1,6 @@
 -- 01, The trace form: the table of events, and the records that get 16.
---     kind_of k           "The two-byte kind decides among seven event kinds."
+--     kind_of n           "The two-byte kind decides among seven event kinds."
+--     Numbered n x        the kind with the number n, or the number where no kind has it
 --     size_of r k         how many bytes a record of the kind has, by its counts
 --     block_marks r       the verdicts and the flag of a block
 --     marks_of r k        the verdicts and flags of a record of the kind
@@ -7,27 +8,31 @@
 --     any_above m xs      whether one of some numbers is above m
 --     are_marks r         whether the verdicts and the flag of a block are 0 or 1
 --     is_formed r k       whether a record has the form of the kind
---     form_of r           the kind of a record that has the form of its kind, and Bad for any other
-use Rattle.std.specs.Prelude.{ℕ, ◌+◌, ◌*◌, Bool, true, false, not, cond, List, [], ◌∷◌, length, get_or, ltb, eqb}
+--     form_if r k         the kind, where there is one and the record has its form
+--     form_of r           the kind of a record that has the form of its kind, and None for any other
+use Rattle.std.specs.Prelude.{◌≡◌, ℕ, ◌+◌, ◌*◌, Bool, true, false, not, cond, List, [], ◌∷◌, length, get_or, ltb, eqb, Option, Some, None, Result, MatchResult}
 use Rattle.certificates.specs.Num.{num_at}
 use Rattle.trace.specs.Record.{record_max}
 use Rattle.trace.specs.Layout.{qc_verdict, qc_size, tc_verdict, tc_size, block_qc, timeout_qc, tc_body, flag_at, tc_at, block_end, payload_of}
 use Rattle.trace.specs.declared.events.Kind.{Kind}
-use Rattle.trace.specs.declared.events.Kind.TheVariants.{Bad, Start, Propose, Vote, Timeout, Tc, Loopback, Tick}
+use Rattle.trace.specs.declared.events.Kind.TheVariants.{Start, Propose, Vote, Timeout, Tc, Loopback, Tick}
+use Rattle.trace.specs.declared.events.UnknownKind.{UnknownKind}
 
-abbrev pub kind_of : ℕ → Kind
-kind_of k =
-    cond (eqb k 1) Start
-    (cond (eqb k 2) Propose
-    (cond (eqb k 3) Vote
-    (cond (eqb k 4) Timeout
-    (cond (eqb k 5) Tc
-    (cond (eqb k 6) Loopback
-    (cond (eqb k 7) Tick Bad))))))
+abbrev pub kind_of : ℕ → Option Kind
+kind_of n =
+    cond (eqb n 1) (Some Start)
+    (cond (eqb n 2) (Some Propose)
+    (cond (eqb n 3) (Some Vote)
+    (cond (eqb n 4) (Some Timeout)
+    (cond (eqb n 5) (Some Tc)
+    (cond (eqb n 6) (Some Loopback)
+    (cond (eqb n 7) (Some Tick) None))))))
+
+abbrev pub Numbered : ℕ → Result Kind UnknownKind → Type 0
+Numbered n x = MatchResult x (λ k. kind_of n ≡ Some k) (λ e. (e.0 ≡ n) × (kind_of n ≡ None))
 
 -- "wrong body length": the kind's two bytes and the body that the counts call for
 abbrev pub size_of : List ℕ → Kind → ℕ
-size_of r Bad = 0
 -- "count 2, own place 2, then key 32 and stake 4 each"
 size_of r Start = 6 + 36 * num_at 2 r 2
 -- "block, payload verdict 1"
@@ -50,7 +55,6 @@ block_marks r =
 
 -- "verdict or flag out of range"
 abbrev pub marks_of : List ℕ → Kind → List ℕ
-marks_of r Bad = []
 marks_of r Start = []
 marks_of r Propose = block_marks r
 marks_of r Vote = get_or r 44 0 ∷ []
@@ -61,7 +65,6 @@ marks_of r Tick = []
 
 -- "payload verdict 1 (0 absent, 1 ready, 2 invalid)"
 abbrev pub payloads_of : List ℕ → Kind → List ℕ
-payloads_of r Bad = []
 payloads_of r Start = []
 payloads_of r Propose = payload_of r ∷ []
 payloads_of r Vote = []
@@ -82,8 +85,12 @@ unfoldable pub is_formed : List ℕ → Kind → Bool
 is_formed r k =
     cond (eqb (length r) (size_of r k)) (cond (any_above 1 (marks_of r k)) false (not (any_above 2 (payloads_of r k)))) false
 
-unfoldable pub form_of : List ℕ → Kind
+abbrev pub form_if : List ℕ → Option Kind → Option Kind
+form_if r None = None
+form_if r (Some k) = cond (is_formed r k) (Some k) None
+
+unfoldable pub form_of : List ℕ → Option Kind
 form_of r =
-    cond (ltb (length r) 2) Bad
-    (cond (ltb record_max (length r)) Bad
-    (cond (is_formed r (kind_of (num_at 2 r 0))) (kind_of (num_at 2 r 0)) Bad))
+    cond (ltb (length r) 2) None
+    (cond (ltb record_max (length r)) None
+    (form_if r (kind_of (num_at 2 r 0))))

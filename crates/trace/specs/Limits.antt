@@ -10,13 +10,12 @@ use Rattle.certificates.specs.Numbers.{round_max}
 use Rattle.trace.specs.Layout.{signers_max, qc_round, qc_count, tc_count, tc_rounds, block_qc, timeout_qc, tc_body, tc_at}
 use Rattle.trace.specs.Form.{any_above}
 use Rattle.trace.specs.declared.events.Kind.{Kind}
-use Rattle.trace.specs.declared.events.Kind.TheVariants.{Bad, Start, Propose, Vote, Timeout, Tc, Loopback, Tick}
+use Rattle.trace.specs.declared.events.Kind.TheVariants.{Start, Propose, Vote, Timeout, Tc, Loopback, Tick}
 
 unfoldable pub block_counts : List ℕ → List ℕ
 block_counts r = qc_count r block_qc ∷ cond (eqb (tc_at r) 0) [] (tc_count r (tc_at r) ∷ [])
 
 abbrev pub counts_of : List ℕ → Kind → List ℕ
-counts_of r Bad = []
 counts_of r Start = []
 counts_of r Propose = block_counts r
 counts_of r Vote = []
@@ -29,7 +28,6 @@ unfoldable pub block_rounds : List ℕ → List ℕ
 block_rounds r = num_at 8 r 36 ∷ qc_round r block_qc ∷ cond (eqb (tc_at r) 0) [] (tc_rounds r (tc_at r))
 
 abbrev pub rounds_of : List ℕ → Kind → List ℕ
-rounds_of r Bad = []
 rounds_of r Start = []
 rounds_of r Propose = block_rounds r
 rounds_of r Vote = num_at 8 r 34 ∷ []
@@ -39,7 +37,6 @@ rounds_of r Loopback = block_rounds r
 rounds_of r Tick = []
 
 abbrev pub empty_tc : List ℕ → Kind → Bool
-empty_tc r Bad = false
 empty_tc r Start = false
 empty_tc r Propose = false
 empty_tc r Vote = false

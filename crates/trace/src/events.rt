@@ -11,9 +11,9 @@
 //   TC                TC 2
 //   QC                hash 0, round 32, verdict 40, count 41, places of 2 from 43
 //   TC                round 0, verdict 8, count 9, entries of 10 from 11: place 0, high round 2
-ghost use Rattle.std.specs.Prelude.{◌≡◌, cond, max, ◌^◌, ◌<◌, length, drop, set, replicate};
+ghost use Rattle.std.specs.Prelude.{◌≡◌, max, ◌^◌, ◌<◌, length, drop, set, replicate};
 ghost use Rattle.trace.specs.Layout.{signers_max, qc_part, tc_part, flag_at, tc_at, block_end, payload_of, tc_rounds, largest, largest_high, highs_of};
-ghost use Rattle.trace.specs.Form.{is_formed, form_of, are_marks};
+ghost use Rattle.trace.specs.Form.{Numbered, is_formed, form_of, are_marks};
 ghost use Rattle.trace.specs.Limits.{bounded, limit_of};
 ghost use Rattle.trace.specs.Fields.{vote_of, timeout_of, block_of, tc_round_of, tc_high_of};
 
@@ -33,17 +33,39 @@ pub const TIMEOUT_QC: usize = 13;
 
 pub const TC_BODY: usize = 2;
 
-#[derive(Clone, Copy)]
+// The kinds of event, each with its number in a record.
+#[derive(Clone, Copy, Debug, PartialEq, Eq)]
 pub enum Kind {
-    // No kind, or not the form of its kind.
-    Bad,
-    Start,
-    Propose,
-    Vote,
-    Timeout,
-    Tc,
-    Loopback,
-    Tick,
+    Start = 1,
+    Propose = 2,
+    Vote = 3,
+    Timeout = 4,
+    Tc = 5,
+    Loopback = 6,
+    Tick = 7,
+}
+
+// A number that is no kind's.
+#[derive(Clone, Copy, Debug, PartialEq, Eq)]
+pub struct UnknownKind(pub u16);
+
+impl TryFrom<u16> for Kind {
+    type Error = UnknownKind;
+
+    ghost try_from_gives = { Numbered };
+
+    fn try_from(number: u16) -> Result<Self, UnknownKind> {
+        match number {
+            1 => Ok(Kind::Start),
+            2 => Ok(Kind::Propose),
+            3 => Ok(Kind::Vote),
+            4 => Ok(Kind::Timeout),
+            5 => Ok(Kind::Tc),
+            6 => Ok(Kind::Loopback),
+            7 => Ok(Kind::Tick),
+            0 | 8..=65535 => Err(UnknownKind(number)),
+        }
+    }
 }
 
 #[derive(Clone, Copy)]
@@ -230,33 +252,30 @@ fn loopback_ok(record: &[u8]) -> bool
     marks_ok(record)
 }
 
-// The kind, where the record has its form.
-fn kind_if(ok: bool, kind: Kind) -> Kind
-    ensures { result ≡ cond ok kind Kind.Bad }
+// Whether a record has the form of a kind.
+fn is_formed(record: &[u8], kind: Kind) -> bool
+    ensures { result ≡ is_formed «record».now kind }
 {
-    if ok { kind } else { Kind::Bad }
+    match kind {
+        Kind::Start => start_ok(record),
+        Kind::Propose => propose_ok(record),
+        Kind::Vote => vote_ok(record),
+        Kind::Timeout => timeout_ok(record),
+        Kind::Tc => tc_ok(record),
+        Kind::Loopback => loopback_ok(record),
+        Kind::Tick => record.len() == 2,
+    }
 }
 
-// The kind of a record that has the form of its kind, and Bad for any other.
-pub fn form_of(record: &[u8]) -> Kind
+// The kind of a record that has the form of its kind, and None for any other.
+pub fn form_of(record: &[u8]) -> Option<Kind>
     ensures { result ≡ form_of «record».now }
 {
-    if record.len() < 2 {
-        return Kind::Bad;
+    if record.len() < 2 || RECORD_MAX < record.len() {
+        return None;
     }
-    if RECORD_MAX < record.len() {
-        return Kind::Bad;
-    }
-    match u16_at(record, 0) {
-        1 => kind_if(start_ok(record), Kind::Start),
-        2 => kind_if(propose_ok(record), Kind::Propose),
-        3 => kind_if(vote_ok(record), Kind::Vote),
-        4 => kind_if(timeout_ok(record), Kind::Timeout),
-        5 => kind_if(tc_ok(record), Kind::Tc),
-        6 => kind_if(loopback_ok(record), Kind::Loopback),
-        7 => kind_if(record.len() == 2, Kind::Tick),
-        0 | 8..=65535 => Kind::Bad,
-    }
+    let kind = Kind::try_from(u16_at(record, 0)).ok()?;
+    is_formed(record, kind).then_some(kind)
 }
 
 // ---- the entries of a TC: place 2 and high round 8 each, from 11 on
@@ -378,8 +397,7 @@ pub fn limit_of(record: &[u8], kind: Kind) -> u16
     ensures { result ≡ limit_of «record».now kind }
 {
     match kind {
-        Kind::Bad => 0,
-        Kind::Start => 0,
+        Kind::Start | Kind::Tick => 0,
         Kind::Propose => block_limit(record),
         Kind::Vote => bound(0, u64_at(record, 34)),
         Kind::Timeout => bound(
@@ -388,7 +406,6 @@ pub fn limit_of(record: &[u8], kind: Kind) -> u16
         ),
         Kind::Tc => bound(u16_at(record, 11), tc_rounds(record, TC_BODY)),
         Kind::Loopback => loopback_limit(record),
-        Kind::Tick => 0,
     }
 }
 

@@ -6,30 +6,26 @@ ghost use Rattle.trace.specs.Part.{between};
 pub fn byte_at(s: &[u8], at: usize) -> u8
     ensures { result ≡ get_or s.now at 0 }
 {
-    if at < s.len() { s[at] } else { 0 }
+    s.get(at).copied().unwrap_or(0)
 }
 
 // What is left of s after n bytes: nothing where it has no more.
 pub fn after(s: &[u8], n: usize) -> &[u8]
     ensures { result.now ≡ drop n s.now }
 {
-    if n <= s.len() { &s[n..] } else { &s[..0] }
+    s.get(n..).unwrap_or(&[])
 }
 
 // The first n bytes of s: all of it where it has no more.
 pub fn first(s: &[u8], n: usize) -> &[u8]
     ensures { result.now ≡ take n s.now }
 {
-    if n <= s.len() { &s[0..n] } else { s }
+    s.get(..n).unwrap_or(s)
 }
 
 // The bytes of s from a up to e.
 pub fn middle(s: &[u8], a: usize, e: usize) -> &[u8]
     ensures { result.now ≡ between a e s.now }
 {
-    if e <= s.len() {
-        if a <= e { &s[a..e] } else { &s[..0] }
-    } else {
-        after(s, a)
-    }
+    first(after(s, a), e.saturating_sub(a))
 }

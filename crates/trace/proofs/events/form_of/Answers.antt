@@ -1,38 +1,24 @@
--- `trace::events::form_of` meets its contract: the kind decides, and each arm has its law.
+-- `trace::events::form_of` meets its contract: a law of `Forms` for each way out.
 -- Assumes nothing.
-use Rattle.trace.proofs.Forms.{form-short, form-long, form-start, form-propose, form-vote, form-timeout, form-tc, form-loopback, form-tick, form-zero, form-unknown}
-use borrow.Author.Rules.{rules}
+use Rattle.std.proofs.Common.{◌≡◌, sym, ◌∙◌, Some, None, arith}
+use Rattle.std.specs.Result.{result_ok}
+use Rattle.trace.proofs.Forms.{form-short, form-long, form-unknown, form-known}
 use Rattle.trace.proofs.events.form_of.Goals as goal
+use Rattle.trace.proofs.events.form_of.Goals.{then-record-lt2-via-then-record-lt2, then-record-lt2-via-else-record-lt2+then-record-gt-RECORD_MAX}
 
 pub returns-then-record-lt2 : goal.returns-then-record-lt2
-returns-then-record-lt2 c = search (rules, form-short)
+returns-then-record-lt2 c =
+    elim c.then-record-lt2.branch [
+      | then-record-lt2-via-then-record-lt2 w ↦ form-short _ w.if-record-lt2.true
+      | then-record-lt2-via-else-record-lt2+then-record-gt-RECORD_MAX w ↦ form-long _ w.if-record-lt2.false w.if-record-gt-RECORD_MAX.true
+    ]
 
-pub returns-then-record-gt-RECORD_MAX : goal.returns-then-record-gt-RECORD_MAX
-returns-then-record-gt-RECORD_MAX c = search (rules, form-long)
+pub returns-in_err-kind : goal.returns-in_err-kind
+returns-in_err-kind c =
+    let e : None ≡ result_ok c.try_from.result = sym c.in_err-kind.was ∙ c.ok.ensures.value in
+    c.from_residual.ensures ∙ form-unknown _ (omega arith) (omega arith) c.u16_at.ensures c.try_from.result c.try_from.ensures e
 
-pub returns-in-1 : goal.returns-in-1
-returns-in-1 c = search (rules, form-start)
-
-pub returns-in-2 : goal.returns-in-2
-returns-in-2 c = search (rules, form-propose)
-
-pub returns-in-3 : goal.returns-in-3
-returns-in-3 c = search (rules, form-vote)
-
-pub returns-in-4 : goal.returns-in-4
-returns-in-4 c = search (rules, form-timeout)
-
-pub returns-in-5 : goal.returns-in-5
-returns-in-5 c = search (rules, form-tc)
-
-pub returns-in-6 : goal.returns-in-6
-returns-in-6 c = search (rules, form-loopback)
-
-pub returns-in-7 : goal.returns-in-7
-returns-in-7 c = search (rules, form-tick)
-
-pub returns-in-0 : goal.returns-in-0
-returns-in-0 c = search (rules, form-zero)
-
-pub returns-in-0-2 : goal.returns-in-0-2
-returns-in-0-2 c = search (rules, form-unknown)
+pub returns : goal.returns
+returns c =
+    let e : Some c.in_ok-kind.kind ≡ result_ok c.try_from.result = sym c.in_ok-kind.was ∙ c.ok.ensures.value in
+    c.then_some.ensures ∙ form-known _ (omega arith) (omega arith) c.u16_at.ensures c.try_from.result c.try_from.ensures e c.is_formed.ensures

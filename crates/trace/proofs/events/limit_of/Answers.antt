@@ -1,14 +1,11 @@
 -- `trace::events::limit_of` meets its contract: each arm has its law.
 -- Assumes nothing.
-use Rattle.trace.proofs.Limits.{limit-none, limit-start, limit-propose, limit-vote, limit-timeout, limit-tc, limit-loopback, limit-tick}
+use Rattle.trace.proofs.Limits.{limit-none, limit-propose, limit-vote, limit-timeout, limit-tc, limit-loopback}
 use borrow.Author.Rules.{rules}
 use Rattle.trace.proofs.events.limit_of.Goals as goal
 
-pub returns-in-Bad : goal.returns-in-Bad
-returns-in-Bad c = search (rules, limit-none)
-
 pub returns-in-Start : goal.returns-in-Start
-returns-in-Start c = search (rules, limit-start)
+returns-in-Start c = limit-none _ c.in-Start.is
 
 pub returns-in-Propose : goal.returns-in-Propose
 returns-in-Propose c = search (rules, limit-propose)
@@ -24,6 +21,3 @@ returns-in-Tc c = search (rules, limit-tc)
 
 pub returns-in-Loopback : goal.returns-in-Loopback
 returns-in-Loopback c = search (rules, limit-loopback)
-
-pub returns-in-Tick : goal.returns-in-Tick
-returns-in-Tick c = search (rules, limit-tick)
