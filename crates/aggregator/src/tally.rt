@@ -7,7 +7,7 @@ ghost use Rattle.aggregator.specs.Tally.{fields, places, vote_width, timeout_wid
 
 use crate::tallies::{Added, clear};
 use certificates::config::MEMBERS_MAX;
-use certificates::numbers::{Hash, Place, Round, Signers, Stake, same_hash};
+use certificates::numbers::{Hash, Place, Round, Signers, Stake};
 
 // Where a tally's numbers lie.
 const USED: usize = 0;
@@ -47,7 +47,7 @@ pub(crate) fn is_vote(t: &[u64], round: Round, hash: Hash) -> bool
             c: t[HASH_C],
             d: t[HASH_D],
         };
-        return same_hash(h, hash);
+        return h == hash;
     }
     false
 }

@@ -9,9 +9,11 @@ use mathlib.Core.Bool.{true, false}
 use mathlib.Core.List.{List}
 use mathlib.Core.Path.{◌≡◌, refl, sym, ◌∙◌}
 use borrow.Author.Tests.{eq-eqb, ne_eqb}
+use Rattle.std.specs.Prelude.{Result}
 use Rattle.certificates.specs.declared.numbers.Signers.{Signers}
-use Rattle.certificates.specs.declared.messages.Authored.{Authored}
-use Rattle.certificates.specs.declared.messages.Checked.{Checked}
+use Rattle.certificates.specs.declared.numbers.Stake.{Stake}
+use Rattle.certificates.specs.declared.error.AuthorError.{AuthorError}
+use Rattle.certificates.specs.declared.error.CertificateError.{CertificateError}
 use Rattle.certificates.specs.Config.{quorum_of}
 use Rattle.certificates.specs.Leader.{leader_of}
 use Rattle.certificates.specs.Messages.{embedded_check, tc_check, author_check}
@@ -37,7 +39,7 @@ module _ (m : List ℕ) (b : Block) {l : ℕ} (e : l ≡ leader_of m b.round.0) 
   unfolding leader_check
   leader-other h = rw (← e, ne_eqb _ _ h)
 
-  pub leader-author : {n : ℕ} {a : Authored} → l ≡ b.author.0 → a ≡ author_check m b.author.0 b.verdict → n ≡ author_number a → n ≡ leader_check m b
+  pub leader-author : {n : ℕ} {a : Result Stake AuthorError} → l ≡ b.author.0 → a ≡ author_check m b.author.0 b.verdict → n ≡ author_number a → n ≡ leader_check m b
   unfolding leader_check
   leader-author h f g = rw (← e, eq-eqb _ _ h, ← f) g
 
@@ -46,7 +48,7 @@ module _ (m : List ℕ) (b : Block) (input : List ℕ) where
   unfolding tc_number
   tc-none h = rw (eq-eqb _ _ h)
 
-  pub tc-checked : {n need : ℕ} {part : List ℕ} {c : Checked} → (b.tc ≡ 0 → ⊥) → need ≡ quorum_of m → part ≡ tc_part input b.tc
+  pub tc-checked : {n need : ℕ} {part : List ℕ} {c : Result Signers CertificateError} → (b.tc ≡ 0 → ⊥) → need ≡ quorum_of m → part ≡ tc_part input b.tc
       → c ≡ tc_check m need part → n ≡ number_of c tc_requires_quorum → n ≡ tc_number m b input
   unfolding tc_number
   tc-checked h q p e f = rw (ne_eqb _ _ h, ← q, ← p, ← e) f
@@ -93,7 +95,7 @@ module _ (m : List ℕ) (core : Core) (votes timeouts out : List ℕ) (b : Block
     unfolding proposal_check
     proposal-leader h f = not-passed (rw (← e, first-refused n _ h)) h f
 
-    module _ {need k : ℕ} {part : List ℕ} {c : Checked} (z : n ≡ 0) (q : need ≡ quorum_of m) (p : part ≡ qc_part input block_qc) (f : c ≡ embedded_check m need part) (g : k ≡ number_of c qc_requires_quorum) where
+    module _ {need k : ℕ} {part : List ℕ} {c : Result Signers CertificateError} (z : n ≡ 0) (q : need ≡ quorum_of m) (p : part ≡ qc_part input block_qc) (f : c ≡ embedded_check m need part) (g : k ≡ number_of c qc_requires_quorum) where
       checks : proposal_check m b input (qc_found m input) ≡ first k (tc_number m b input)
       unfolding proposal_check
       checks = rw (← e, first-passed n _ z, ← q, ← p, ← f, ← g)

@@ -14,8 +14,9 @@ use native.Mathlib.Omega.{arith}
 use borrow.Author.Tests.{eq-eqb, ne_eqb, eqb-true}
 use lib.Dec.{eqb}
 use lib.ListN.{length}
+use Rattle.std.specs.Prelude.{Result}
 use Rattle.certificates.specs.declared.numbers.Signers.{Signers}
-use Rattle.certificates.specs.declared.messages.Checked.{Checked}
+use Rattle.certificates.specs.declared.error.CertificateError.{CertificateError}
 use Rattle.certificates.specs.Config.{total_max}
 use Rattle.certificates.specs.Leader.{leader_of}
 use Rattle.certificates.specs.Messages.{author_check}
@@ -35,12 +36,12 @@ use Rattle.handlers.proofs.HandlerLaws.{first-both, keeps-sound}
 
 -- ---- the checks
 
-pub record Passes (m : List ℕ) (b : Block) (input : List ℕ) (c : Checked) : Type 0 where
+pub record Passes (m : List ℕ) (b : Block) (input : List ℕ) (c : Result Signers CertificateError) : Type 0 where
   pub leader : leader_check m b ≡ 0
   pub qc : number_of c qc_requires_quorum ≡ 0
   pub tc : tc_number m b input ≡ 0
 
-pub checks-passed : (m : List ℕ) (b : Block) (input : List ℕ) (qc : Checked) → proposal_check m b input qc ≡ 0 → Passes m b input qc
+pub checks-passed : (m : List ℕ) (b : Block) (input : List ℕ) (qc : Result Signers CertificateError) → proposal_check m b input qc ≡ 0 → Passes m b input qc
 unfolding proposal_check
 checks-passed m b input qc e =
     let x = first-both (leader_check m b) (first (number_of qc qc_requires_quorum) (tc_number m b input)) e in

@@ -5,8 +5,9 @@ use Prim.Native.Nat.{ℕ, ◌≤◌, ◌<◌}
 use mathlib.Core.List.{List}
 use mathlib.Core.Path.{◌≡◌}
 use borrow.Author.Tests.{ne_eqb, lt-ltb, le-ltb}
+use Rattle.std.specs.Prelude.{Result}
 use Rattle.certificates.specs.declared.numbers.Signers.{Signers}
-use Rattle.certificates.specs.declared.messages.Checked.{Checked}
+use Rattle.certificates.specs.declared.error.CertificateError.{CertificateError}
 use Rattle.certificates.specs.Config.{quorum_of}
 use Rattle.certificates.specs.Messages.{tc_check}
 use Rattle.certificates.specs.Error.{stale, tc_requires_quorum, number_of}
@@ -33,7 +34,7 @@ module _ (m : List ℕ) (own : ℕ) (core : Core) (votes timeouts : List ℕ) (r
 
 -- ---- the handler
 
-module _ (m : List ℕ) (own : ℕ) (core : Core) (votes timeouts out : List ℕ) (round : ℕ) (r : List ℕ) {need k : ℕ} {part : List ℕ} {tc : Checked} (e : need ≡ quorum_of m)
+module _ (m : List ℕ) (own : ℕ) (core : Core) (votes timeouts out : List ℕ) (round : ℕ) (r : List ℕ) {need k : ℕ} {part : List ℕ} {tc : Result Signers CertificateError} (e : need ≡ quorum_of m)
     (p : part ≡ tc_part r tc_body) (q : tc ≡ tc_check m need part) (f : k ≡ number_of tc tc_requires_quorum) where
   pub tc-refused : (k ≡ 0 → ⊥) → Reached handle_tc_most (handled_tc m own (whole core votes timeouts) round r) out 0 (record { answer = k; core = core; at = 0 }) votes timeouts out
   unfolding handled_tc tc_with

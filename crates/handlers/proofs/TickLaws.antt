@@ -7,7 +7,9 @@ use Prim.Native.Nat.{ℕ, ◌≤◌, ◌<◌}
 use mathlib.Core.List.{List}
 use mathlib.Core.Path.{◌≡◌, refl}
 use borrow.Author.Tests.{ne_eqb, lt-ltb, le-ltb}
-use Rattle.certificates.specs.declared.messages.Authored.{Authored}
+use Rattle.std.specs.Prelude.{Result}
+use Rattle.certificates.specs.declared.numbers.Stake.{Stake}
+use Rattle.certificates.specs.declared.error.AuthorError.{AuthorError}
 use Rattle.certificates.specs.Config.{stake_of, quorum_of}
 use Rattle.certificates.specs.Messages.{author_check}
 use Rattle.certificates.specs.Error.{round_too_high, author_number}
@@ -47,7 +49,7 @@ tick-within p h = rw p.stays h
 
 -- ---- the own timeout
 
-module _ (m : List ℕ) (own : ℕ) (core : Core) (votes timeouts out : List ℕ) (at : ℕ) {n : ℕ} {a : Authored} (e : a ≡ author_check m own 1) (f : n ≡ author_number a) where
+module _ (m : List ℕ) (own : ℕ) (core : Core) (votes timeouts out : List ℕ) (at : ℕ) {n : ℕ} {a : Result Stake AuthorError} (e : a ≡ author_check m own 1) (f : n ≡ author_number a) where
   pub own-refused : (n ≡ 0 → ⊥) → Reached time_out_most (own_timeout m own (whole core votes timeouts)) out at (record { answer = n; core = core; at = at }) votes timeouts out
   unfolding own_timeout
   own-refused h = rw (← e, ← f, ne_eqb _ _ h) (reached-refused time_out_most n core votes timeouts out at)

@@ -11,9 +11,11 @@ use native.Mathlib.Omega.{arith}
 use borrow.Author.Tests.{ne_eqb, lt-ltb, le-ltb}
 use lib.Dec.{ltb}
 use lib.ListN.{length}
+use Rattle.std.specs.Prelude.{Result}
 use Rattle.certificates.specs.declared.numbers.Signers.{Signers}
-use Rattle.certificates.specs.declared.messages.Checked.{Checked}
-use Rattle.certificates.specs.declared.messages.Authored.{Authored}
+use Rattle.certificates.specs.declared.error.CertificateError.{CertificateError}
+use Rattle.certificates.specs.declared.numbers.Stake.{Stake}
+use Rattle.certificates.specs.declared.error.AuthorError.{AuthorError}
 use Rattle.certificates.specs.Config.{stake_of, quorum_of}
 use Rattle.certificates.specs.Messages.{embedded_check, author_check}
 use Rattle.certificates.specs.Error.{stale, qc_requires_quorum, number_of, author_number}
@@ -37,7 +39,7 @@ module _ (m : List ℕ) (current : ℕ) (t : Timeout) where
   unfolding timeout_check
   timeout-stale h = rw (lt-ltb _ _ h)
 
-  pub timeout-author : {a : Authored} {n : ℕ} → current ≤ t.round.0 → a ≡ author_check m t.author.0 t.verdict → n ≡ author_number a → n ≡ timeout_check m current t
+  pub timeout-author : {a : Result Stake AuthorError} {n : ℕ} → current ≤ t.round.0 → a ≡ author_check m t.author.0 t.verdict → n ≡ author_number a → n ≡ timeout_check m current t
   unfolding timeout_check
   timeout-author h e f = rw (le-ltb _ _ h, ← e) f
 
@@ -69,7 +71,7 @@ module _ (m : List ℕ) (own : ℕ) (core : Core) (votes timeouts out : List ℕ
   unfolding handled_timeout timeout_with
   timeout-refused h = rw (← c, ne_eqb _ _ h, ne_eqb _ _ h) (reached-refused handle_timeout_most n core votes timeouts out 0)
 
-  module _ {need k : ℕ} {part : List ℕ} {qc : Checked} (z : n ≡ 0) (e : need ≡ quorum_of m) (p : part ≡ qc_part r timeout_qc) (q : qc ≡ embedded_check m need part)
+  module _ {need k : ℕ} {part : List ℕ} {qc : Result Signers CertificateError} (z : n ≡ 0) (e : need ≡ quorum_of m) (p : part ≡ qc_part r timeout_qc) (q : qc ≡ embedded_check m need part)
       (f : k ≡ number_of qc qc_requires_quorum) where
     pub timeout-qc-refused : (k ≡ 0 → ⊥)
         → Reached handle_timeout_most (handled_timeout m own (whole core votes timeouts) t r) out 0 (record { answer = k; core = core; at = 0 }) votes timeouts out

@@ -12,7 +12,9 @@ use native.Mathlib.Omega.{arith}
 use borrow.Author.Tests.{eq-eqb, ne_eqb, lt-ltb, le-ltb}
 use lib.Dec.{ltb, leb, eqb}
 use lib.ListN.{length}
-use Rattle.certificates.specs.declared.messages.Authored.{Authored}
+use Rattle.std.specs.Prelude.{Result}
+use Rattle.certificates.specs.declared.numbers.Stake.{Stake}
+use Rattle.certificates.specs.declared.error.AuthorError.{AuthorError}
 use Rattle.certificates.specs.Config.{stake_of, quorum_of}
 use Rattle.certificates.specs.Leader.{leader_of}
 use Rattle.certificates.specs.Messages.{author_check}
@@ -40,7 +42,7 @@ module _ (m : List ℕ) (current : ℕ) (v : Vote) where
   vote-stale h = rw (lt-ltb _ _ h)
 
   module _ {n : ℕ} where
-    pub vote-author : {a : Authored} → current ≤ v.round.0 → a ≡ author_check m v.author.0 v.verdict → n ≡ author_number a → n ≡ vote_check m current v
+    pub vote-author : {a : Result Stake AuthorError} → current ≤ v.round.0 → a ≡ author_check m v.author.0 v.verdict → n ≡ author_number a → n ≡ vote_check m current v
     unfolding vote_check
     vote-author h e f = rw (le-ltb _ _ h, ← e) f
 
@@ -97,7 +99,7 @@ module _ (b : Block) where
 
 -- ---- the own vote
 
-module _ (m : List ℕ) (own : ℕ) (core : Core) (votes timeouts out : List ℕ) (at : ℕ) (b : Block) {n : ℕ} {a : Authored} (e : a ≡ author_check m own 1) (f : n ≡ author_number a) where
+module _ (m : List ℕ) (own : ℕ) (core : Core) (votes timeouts out : List ℕ) (at : ℕ) (b : Block) {n : ℕ} {a : Result Stake AuthorError} (e : a ≡ author_check m own 1) (f : n ≡ author_number a) where
   own-number : n ≡ author_number (author_check m own 1)
   own-number = rw (← e) f
 

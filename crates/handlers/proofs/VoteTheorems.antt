@@ -14,11 +14,12 @@ use native.Mathlib.Omega.{arith}
 use borrow.Author.Tests.{eq-eqb, ne_eqb, eqb-true, eqb-false, ltb-true, leb-true}
 use lib.Dec.{ltb, leb, eqb}
 use lib.ListN.{length}
+use Rattle.std.specs.Prelude.{Ok, Err}
 use Rattle.certificates.specs.declared.numbers.Hash.{Hash}
 use Rattle.certificates.specs.Config.{stake_of, quorum_of}
 use Rattle.certificates.specs.Leader.{leader_of}
 use Rattle.certificates.specs.Messages.{author_check}
-use Rattle.certificates.specs.declared.messages.Authored.TheVariants as authored
+use Rattle.certificates.specs.declared.error.AuthorError.TheVariants as author
 use Rattle.certificates.specs.Signers.{member}
 use Rattle.certificates.specs.Error.{author_number, unknown_authority, authority_reuse, tallies_full}
 use Rattle.trace.specs.declared.events.Vote.{Vote}
@@ -181,7 +182,7 @@ module _ (m : List ℕ) (own : ℕ) where
   unfolding member author_check
   author-votes = cases (eqb (stake_of m own) 0)
     where
-      cases : (u : Bool) → Votes (author_number (cond u (authored.UnknownAuthority record { 0 = own }) (authored.Valid record { 0 = stake_of m own })))
+      cases : (u : Bool) → Votes (author_number (cond u (Err (author.UnknownAuthority record { 0 = own })) (Ok record { 0 = stake_of m own })))
       cases true = refl
       cases false = refl
 

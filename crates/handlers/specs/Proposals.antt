@@ -11,9 +11,9 @@
 --     Proposes k p ..                       what code did, against such a definition
 --     refused_as core n, payload_as a payload   what code hands on of a proposal that is refused early, and of one that is not
 --     taken_most                            the most bytes that a proposal writes
-use Rattle.std.specs.Prelude.{ℕ, ◌+◌, Bool, false, cond, List, ◌≡◌, eqb}
+use Rattle.std.specs.Prelude.{ℕ, ◌+◌, Bool, false, cond, List, ◌≡◌, eqb, Result}
 use Rattle.certificates.specs.declared.numbers.Signers.{Signers}
-use Rattle.certificates.specs.declared.messages.Checked.{Checked}
+use Rattle.certificates.specs.declared.error.CertificateError.{CertificateError}
 use Rattle.certificates.specs.Config.{quorum_of}
 use Rattle.certificates.specs.Leader.{leader_of}
 use Rattle.certificates.specs.Messages.{embedded_check, tc_check, author_check}
@@ -34,7 +34,7 @@ unfoldable pub leader_check : List ℕ → Block → ℕ
 leader_check m b = cond (eqb (leader_of m b.round.0) b.author.0) (author_number (author_check m b.author.0 b.verdict)) wrong_leader
 
 -- "QC"
-abbrev pub qc_found : List ℕ → List ℕ → Checked
+abbrev pub qc_found : List ℕ → List ℕ → Result Signers CertificateError
 qc_found m r = embedded_check m (quorum_of m) (qc_part r block_qc)
 
 -- "TC": 0 where the block has none
@@ -42,7 +42,7 @@ unfoldable pub tc_number : List ℕ → Block → List ℕ → ℕ
 tc_number m b r = cond (eqb b.tc 0) 0 (number_of (tc_check m (quorum_of m) (tc_part r b.tc)) tc_requires_quorum)
 
 -- "leader; author stake; verdict; QC; TC", in this order
-unfoldable pub proposal_check : List ℕ → Block → List ℕ → Checked → ℕ
+unfoldable pub proposal_check : List ℕ → Block → List ℕ → Result Signers CertificateError → ℕ
 proposal_check m b r qc = first (leader_check m b) (first (number_of qc qc_requires_quorum) (tc_number m b r))
 
 -- "advance by TC"
@@ -65,7 +65,7 @@ payload_number payload = cond (eqb payload 1) 0 (cond (eqb payload 0) wait_paylo
 unfoldable pub by_payload : ℕ → Step → Proposal
 by_payload payload a = record { goes_on = eqb payload 1; out = done (payload_number payload) a }
 
-unfoldable pub proposal_with : List ℕ → State → Block → List ℕ → ℕ → Checked → Proposal
+unfoldable pub proposal_with : List ℕ → State → Block → List ℕ → ℕ → Result Signers CertificateError → Proposal
 proposal_with m s b r payload qc =
     cond (eqb (proposal_check m b r qc) 0) (by_payload payload (taken s b (signers_of qc)))
     (record { goes_on = false; out = refused (proposal_check m b r qc) s })

@@ -2,11 +2,10 @@
 --     Sound m own votes timeouts     the committee and the own place within the limits, tallies of the right sizes and none too heavy
 --     first a b                      the first of two checks that is not passed
 --     signers_of c                   the signers that a check accepted; none where it did not
-use Rattle.std.specs.Prelude.{ℕ, ◌≤◌, ◌<◌, cond, List, ◌≡◌, eqb, length}
+use Rattle.std.specs.Prelude.{ℕ, ◌≤◌, ◌<◌, cond, List, ◌≡◌, eqb, length, Result, Ok, Err}
 use Rattle.certificates.specs.Config.{members_max, total_max, sum}
 use Rattle.certificates.specs.declared.numbers.Signers.{Signers}
-use Rattle.certificates.specs.declared.messages.Checked.{Checked}
-use Rattle.certificates.specs.declared.messages.Checked.TheVariants.{Accepted, AuthorityReuse, UnknownAuthority, RequiresQuorum, InvalidSignature, Cut}
+use Rattle.certificates.specs.declared.error.CertificateError.{CertificateError}
 use Rattle.aggregator.specs.Tally.{vote_width, timeout_width}
 use Rattle.aggregator.specs.Tallies.{vote_tallies, timeout_tallies, votes_length, timeouts_length, Light}
 
@@ -22,10 +21,6 @@ pub record Sound (m : List ℕ) (own : ℕ) (votes timeouts : List ℕ) : Type 0
 abbrev pub first : ℕ → ℕ → ℕ
 first a b = cond (eqb a 0) b a
 
-abbrev pub signers_of : Checked → Signers
-signers_of (Accepted s) = s
-signers_of (AuthorityReuse p) = record { 0 = 0 }
-signers_of (UnknownAuthority p) = record { 0 = 0 }
-signers_of RequiresQuorum = record { 0 = 0 }
-signers_of InvalidSignature = record { 0 = 0 }
-signers_of Cut = record { 0 = 0 }
+abbrev pub signers_of : Result Signers CertificateError → Signers
+signers_of (Ok s) = s
+signers_of (Err e) = record { 0 = 0 }

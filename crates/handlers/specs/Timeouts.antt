@@ -13,9 +13,9 @@
 --     TicksTo core ..                       what code did: a tick
 --     own_timeout m own s                   the own timeout, from its author check on
 --     handled_tick m own s                  TICK
-use Rattle.std.specs.Prelude.{ℕ, ◌+◌, cond, List, [], ◌∷◌, ltb, ◌≡◌}
+use Rattle.std.specs.Prelude.{ℕ, ◌+◌, cond, List, [], ◌∷◌, ltb, ◌≡◌, Result}
 use Rattle.certificates.specs.declared.numbers.Signers.{Signers}
-use Rattle.certificates.specs.declared.messages.Checked.{Checked}
+use Rattle.certificates.specs.declared.error.CertificateError.{CertificateError}
 use Rattle.certificates.specs.Config.{stake_of, quorum_of}
 use Rattle.certificates.specs.Messages.{embedded_check, tc_check, author_check}
 use Rattle.certificates.specs.Error.{stale, round_too_high, qc_requires_quorum, tc_requires_quorum, number_of, author_number}
@@ -58,7 +58,7 @@ timeout_taken m own s t signers =
     (λ (u : State). timeout_tallied m own (quorum_of m) u t.round.0 t.author.0 (stake_of m t.author.0) t.qc_round.0)
 
 -- ".. its QC; the QC is taken .."
-unfoldable pub timeout_with : List ℕ → ℕ → State → Timeout → Checked → Outcome
+unfoldable pub timeout_with : List ℕ → ℕ → State → Timeout → Result Signers CertificateError → Outcome
 timeout_with m own s t qc =
     checked (first (timeout_check m s.core.round.0 t) (number_of qc qc_requires_quorum)) s (timeout_taken m own s t (signers_of qc))
 
@@ -76,7 +76,7 @@ abbrev pub stale_if : ℕ → ℕ → ℕ
 stale_if round current = cond (ltb round current) stale 0
 
 -- "TC: checked first, then STALE if below"
-unfoldable pub tc_with : List ℕ → ℕ → State → ℕ → List ℕ → Checked → Outcome
+unfoldable pub tc_with : List ℕ → ℕ → State → ℕ → List ℕ → Result Signers CertificateError → Outcome
 tc_with m own s round part tc =
     checked (first (number_of tc tc_requires_quorum) (stale_if round s.core.round.0)) s (done 0 (tc_taken m own s round (signers_of tc) part))
 

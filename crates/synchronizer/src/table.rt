@@ -4,7 +4,7 @@ ghost use Rattle.synchronizer.specs.Table.{blank, slot_at, fits, lowest, want_an
 ghost use Rattle.synchronizer.specs.Parts.{placed};
 
 use certificates::error::TABLE_FULL;
-use certificates::numbers::{Hash, Round, same_hash};
+use certificates::numbers::{Hash, Round};
 
 // A block as it is kept. A slot that is not used holds nothing. It is laid out as in C: a host lends
 // slices of it.
@@ -58,7 +58,7 @@ pub(crate) fn meets(s: Slot, w: Want) -> bool
     if s.used {
         let a = s.digest;
         let b = w.digest;
-        return same_hash(a, b);
+        return a == b;
     }
     false
 }
