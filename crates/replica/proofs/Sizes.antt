@@ -9,18 +9,18 @@ use native.Mathlib.Omega.{arith}
 use borrow.Author.Tests.{eqb-true, eqb-false}
 use lib.Dec.{ltb, eqb, lit≤}
 use lib.ListN.{length, length-append, drop}
+use Rattle.std.specs.Prelude.{Option, None, Some, Result}
 use Rattle.certificates.specs.Error.{wait_parent}
 use Rattle.certificates.specs.Config.{quorum_of, stake_of}
 use Rattle.certificates.specs.Start.{setup_at}
 use Rattle.certificates.specs.Leader.{leader_of}
 use Rattle.certificates.specs.Messages.{embedded_check, tc_check, author_check}
 use Rattle.certificates.specs.Error as error
-use Rattle.certificates.specs.declared.config.Setup.{Setup}
-use Rattle.certificates.specs.declared.config.Setup.TheVariants.{Bad, Total}
+use Rattle.certificates.specs.declared.numbers.Stake.{Stake}
 use Rattle.certificates.specs.declared.numbers.Hash.{Hash}
 use Rattle.certificates.specs.declared.numbers.Signers.{Signers}
 use Rattle.certificates.specs.declared.messages.QC.{QC}
-use Rattle.certificates.specs.declared.messages.Checked.{Checked}
+use Rattle.certificates.specs.declared.error.CertificateError.{CertificateError}
 use Rattle.trace.specs.Form.{form_of}
 use Rattle.trace.specs.Limits.{limit_of}
 use Rattle.trace.specs.Fields.{vote_of, timeout_of, block_of}
@@ -165,7 +165,7 @@ module _ (m : List ℕ) (own : ℕ) where
   unfolding timeout_taken
   timeout-taken-size s t signers = size-both _ _ advance_most time_out_most (taken_qc-size s _) (timeout-tallied-size (quorum_of m) _ t.round.0 t.author.0 (stake_of m t.author.0) t.qc_round.0)
 
-  timeout-with-size : (s : State) (t : Timeout) (qc : Checked) → size (timeout_with m own s t qc).left.outs ≤ handle_timeout_most
+  timeout-with-size : (s : State) (t : Timeout) (qc : Result Signers CertificateError) → size (timeout_with m own s t qc).left.outs ≤ handle_timeout_most
   unfolding timeout_with
   timeout-with-size s t qc =
       by_cases (eqb (first (timeout_check m s.core.round.0 t) (error.number_of qc error.qc_requires_quorum)) 0) (λ e. rw e (timeout-taken-size s t (signers_of qc))) (λ e. rw e (size_none handle_timeout_most))
@@ -178,7 +178,7 @@ module _ (m : List ℕ) (own : ℕ) where
   unfolding tc_taken
   tc-taken-size s round names part = size-both _ _ advance_most make_with_most (advanced-size s round) (make-with-size _ round names.0 _)
 
-  tc-with-size : (s : State) (round : ℕ) (part : List ℕ) (c : Checked) → size (tc_with m own s round part c).left.outs ≤ handle_tc_most
+  tc-with-size : (s : State) (round : ℕ) (part : List ℕ) (c : Result Signers CertificateError) → size (tc_with m own s round part c).left.outs ≤ handle_tc_most
   unfolding tc_with
   tc-with-size s round part c =
       by_cases (eqb (first (error.number_of c error.tc_requires_quorum) (stale_if round s.core.round.0)) 0) (λ e. rw e (tc-taken-size s round (signers_of c) part)) (λ e. rw e (size_none handle_tc_most))
@@ -211,7 +211,7 @@ module _ (m : List ℕ) (own : ℕ) where
   unfolding taken
   taken-size s b signers = size-both _ _ advance_most advance_most (taken_qc-size s _) (advanced-tc-size b _)
 
-  proposal-with-size : (s : State) (b : Block) (r : List ℕ) (payload : ℕ) (qc : Checked) → size (proposal_with m s b r payload qc).out.left.outs ≤ taken_most
+  proposal-with-size : (s : State) (b : Block) (r : List ℕ) (payload : ℕ) (qc : Result Signers CertificateError) → size (proposal_with m s b r payload qc).out.left.outs ≤ taken_most
   unfolding proposal_with by_payload
   proposal-with-size s b r payload qc = by_cases (eqb (proposal_check m b r qc) 0) (λ e. rw e (taken-size s b _)) (λ e. rw e (size_none taken_most))
 
@@ -296,7 +296,6 @@ module _ (w : World) where
   most = room_for (length w.table)
 
   handled-size : (r : List ℕ) (k : Kind) → size (handled w r k).outs ≤ most
-  handled-size r Kind.Bad = size_none most
   handled-size r Kind.Start = size_none most
   handled-size r Kind.Propose =
       size_less _ (taken_most + (settle_most (length w.table) + voting_most)) most (omega arith)
@@ -312,34 +311,34 @@ module _ (w : World) where
   unfolding announced
   announced-size m own c = size-both (timer_reset ∷ []) (make_of m own c) 4 61 (size-one timer_reset 4 (lit≤ tt)) (make-size m own c)
 
-  begun-size : (r : List ℕ) (st : Setup) → size (begun_by w r st).outs ≤ most
-  begun-size r Bad = size_none most
-  begun-size r (Total t) = size_less _ announced_most most (omega arith) (announced-size _ _ _)
+  begun-size : (r : List ℕ) (st : Option Stake) → size (begun_by w r st).outs ≤ most
+  begun-size r None = size_none most
+  begun-size r (Some t) = size_less _ announced_most most (omega arith) (announced-size _ _ _)
 
-  on-start-size : (room : ℕ) (r : List ℕ) (st : Setup) → size (on_start w room r st).outs ≤ most
+  on-start-size : (room : ℕ) (r : List ℕ) (st : Option Stake) → size (on_start w room r st).outs ≤ most
   unfolding begun
-  on-start-size room r (Total t) = size_none most
-  on-start-size room r Bad =
+  on-start-size room r (Some t) = size_none most
+  on-start-size room r None =
       by_cases (roomy (length w.table) room)
       (λ e. by_cases (sized_in w) (λ f. rw (e, f) (begun-size r (setup_at (drop 2 r)))) (λ f. rw (e, f) (size_none most)))
       (λ e. rw e (size_none most))
 
-  on-other-size : (room : ℕ) (r : List ℕ) (k : Kind) (st : Setup) → size (on_other w room r k st).outs ≤ most
-  on-other-size room r k Bad = size_none most
-  on-other-size room r k (Total t) =
+  on-other-size : (room : ℕ) (r : List ℕ) (k : Kind) (st : Option Stake) → size (on_other w room r k st).outs ≤ most
+  on-other-size room r k None = size_none most
+  on-other-size room r k (Some t) =
       by_cases (roomy (length w.table) room)
       (λ e. by_cases (eqb (limit_of r k) 0) (λ f. rw (e, f) (handled-size r k)) (λ f. rw (e, f) (size_none most)))
       (λ e. rw e (size_none most))
 
-  on-kind-size : (room : ℕ) (r : List ℕ) (k : Kind) → size (on_kind w room r k).outs ≤ most
-  on-kind-size room r Kind.Bad = size_none most
-  on-kind-size room r Kind.Start = on-start-size room r (started w)
-  on-kind-size room r Kind.Propose = on-other-size room r Kind.Propose (started w)
-  on-kind-size room r Kind.Vote = on-other-size room r Kind.Vote (started w)
-  on-kind-size room r Kind.Timeout = on-other-size room r Kind.Timeout (started w)
-  on-kind-size room r Kind.Tc = on-other-size room r Kind.Tc (started w)
-  on-kind-size room r Kind.Loopback = on-other-size room r Kind.Loopback (started w)
-  on-kind-size room r Kind.Tick = on-other-size room r Kind.Tick (started w)
+  on-kind-size : (room : ℕ) (r : List ℕ) (k : Option Kind) → size (on_kind w room r k).outs ≤ most
+  on-kind-size room r None = size_none most
+  on-kind-size room r (Some Kind.Start) = on-start-size room r (started w)
+  on-kind-size room r (Some Kind.Propose) = on-other-size room r Kind.Propose (started w)
+  on-kind-size room r (Some Kind.Vote) = on-other-size room r Kind.Vote (started w)
+  on-kind-size room r (Some Kind.Timeout) = on-other-size room r Kind.Timeout (started w)
+  on-kind-size room r (Some Kind.Tc) = on-other-size room r Kind.Tc (started w)
+  on-kind-size room r (Some Kind.Loopback) = on-other-size room r Kind.Loopback (started w)
+  on-kind-size room r (Some Kind.Tick) = on-other-size room r Kind.Tick (started w)
 
   pub step-size : (room : ℕ) (r : List ℕ) → size (stepped w room r).outs ≤ room_for (length w.table)
   unfolding stepped
@@ -348,7 +347,6 @@ module _ (w : World) where
   -- ---- the table
 
   handled-slots : (r : List ℕ) (k : Kind) → length (handled w r k).world.table ≡ length w.table
-  handled-slots r Kind.Bad = refl
   handled-slots r Kind.Start = refl
   handled-slots r Kind.Propose = going-slots (committee w) w.seat.own.0 w.table (block_of r) _
   handled-slots r Kind.Vote = refl
@@ -357,34 +355,34 @@ module _ (w : World) where
   handled-slots r Kind.Loopback = block-slots (committee w) w.seat.own.0 w.table (block_of r) w.state
   handled-slots r Kind.Tick = refl
 
-  begun-slots : (r : List ℕ) (st : Setup) → length (begun_by w r st).world.table ≡ length w.table
-  begun-slots r Bad = refl
-  begun-slots r (Total t) = cleared-length w.table
+  begun-slots : (r : List ℕ) (st : Option Stake) → length (begun_by w r st).world.table ≡ length w.table
+  begun-slots r None = refl
+  begun-slots r (Some t) = cleared-length w.table
 
-  on-start-slots : (room : ℕ) (r : List ℕ) (st : Setup) → length (on_start w room r st).world.table ≡ length w.table
+  on-start-slots : (room : ℕ) (r : List ℕ) (st : Option Stake) → length (on_start w room r st).world.table ≡ length w.table
   unfolding begun
-  on-start-slots room r (Total t) = refl
-  on-start-slots room r Bad =
+  on-start-slots room r (Some t) = refl
+  on-start-slots room r None =
       by_cases (roomy (length w.table) room)
       (λ e. by_cases (sized_in w) (λ f. rw (e, f) (begun-slots r (setup_at (drop 2 r)))) (λ f. rw (e, f)))
       (λ e. rw e)
 
-  on-other-slots : (room : ℕ) (r : List ℕ) (k : Kind) (st : Setup) → length (on_other w room r k st).world.table ≡ length w.table
-  on-other-slots room r k Bad = refl
-  on-other-slots room r k (Total t) =
+  on-other-slots : (room : ℕ) (r : List ℕ) (k : Kind) (st : Option Stake) → length (on_other w room r k st).world.table ≡ length w.table
+  on-other-slots room r k None = refl
+  on-other-slots room r k (Some t) =
       by_cases (roomy (length w.table) room)
       (λ e. by_cases (eqb (limit_of r k) 0) (λ f. rw (e, f) (handled-slots r k)) (λ f. rw (e, f)))
       (λ e. rw e)
 
-  on-kind-slots : (room : ℕ) (r : List ℕ) (k : Kind) → length (on_kind w room r k).world.table ≡ length w.table
-  on-kind-slots room r Kind.Bad = refl
-  on-kind-slots room r Kind.Start = on-start-slots room r (started w)
-  on-kind-slots room r Kind.Propose = on-other-slots room r Kind.Propose (started w)
-  on-kind-slots room r Kind.Vote = on-other-slots room r Kind.Vote (started w)
-  on-kind-slots room r Kind.Timeout = on-other-slots room r Kind.Timeout (started w)
-  on-kind-slots room r Kind.Tc = on-other-slots room r Kind.Tc (started w)
-  on-kind-slots room r Kind.Loopback = on-other-slots room r Kind.Loopback (started w)
-  on-kind-slots room r Kind.Tick = on-other-slots room r Kind.Tick (started w)
+  on-kind-slots : (room : ℕ) (r : List ℕ) (k : Option Kind) → length (on_kind w room r k).world.table ≡ length w.table
+  on-kind-slots room r None = refl
+  on-kind-slots room r (Some Kind.Start) = on-start-slots room r (started w)
+  on-kind-slots room r (Some Kind.Propose) = on-other-slots room r Kind.Propose (started w)
+  on-kind-slots room r (Some Kind.Vote) = on-other-slots room r Kind.Vote (started w)
+  on-kind-slots room r (Some Kind.Timeout) = on-other-slots room r Kind.Timeout (started w)
+  on-kind-slots room r (Some Kind.Tc) = on-other-slots room r Kind.Tc (started w)
+  on-kind-slots room r (Some Kind.Loopback) = on-other-slots room r Kind.Loopback (started w)
+  on-kind-slots room r (Some Kind.Tick) = on-other-slots room r Kind.Tick (started w)
 
   pub step-slots : (room : ℕ) (r : List ℕ) → length (stepped w room r).world.table ≡ length w.table
   unfolding stepped

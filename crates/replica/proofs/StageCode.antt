@@ -6,6 +6,7 @@ use mathlib.Core.Path.{◌≡◌, refl, sym, ◌∙◌, ap}
 use native.Mathlib.Omega.{arith}
 use borrow.Author.Tests.{ne_eqb}
 use lib.ListN.{length, take, drop}
+use Rattle.std.specs.Prelude.{Option, None, Some}
 use Rattle.certificates.specs.Config.{quorum_from, quorum_of}
 use Rattle.certificates.specs.Start.{member_count, own_place, setup_at, loaded_stakes}
 use Rattle.certificates.proofs.ConfigLaws.{quorum-total}
@@ -13,8 +14,6 @@ use Rattle.certificates.proofs.StartLaws.{started as start_of_lem, length-loaded
 use Rattle.certificates.specs.Error.{bad_record, bad_setup, no_room, not_started, started_again}
 use Rattle.certificates.specs.declared.numbers.Place.{Place}
 use Rattle.certificates.specs.declared.numbers.Stake.{Stake}
-use Rattle.certificates.specs.declared.config.Setup.{Setup}
-use Rattle.certificates.specs.declared.config.Setup.TheVariants.{Bad, Total}
 use Rattle.trace.specs.declared.events.Kind.{Kind}
 use Rattle.trace.specs.declared.events.Vote.{Vote}
 use Rattle.trace.specs.declared.events.Timeout.{Timeout}
@@ -50,7 +49,7 @@ use Rattle.replica.specs.declared.stages.Booting.TheVariants.{NoRoom, BadSetup, 
 use Rattle.replica.specs.declared.stages.Stepped.{Stepped}
 use Rattle.replica.specs.Started.{members_of, sized, started_of, roomy}
 use Rattle.replica.specs.Step.{new_core, new_seat, new_stakes, announced, announced_most}
-use Rattle.replica.specs.Stages.{Stage, ended, alone, handled_in, ready_in, Filled, Boots, booted_by, booting_of, started_in, is_start, is_bad, staged_of, finished_of, early_begun, ran_handed, handed_begun, first_most, Handles, Ongoing, Begins, Finishes}
+use Rattle.replica.specs.Stages.{Stage, ended, alone, handled_in, ready_in, Filled, Boots, booted_by, booting_of, started_in, is_start, staged_of, finished_of, early_begun, ran_handed, handed_begun, first_most, Handles, Ongoing, Begins, Finishes}
 use Rattle.replica.proofs.StartedLaws.{started-ready, sized-has, members-part}
 use Rattle.replica.proofs.StepLaws.{roomy-has}
 
@@ -74,34 +73,34 @@ module _ (seat : Seat) (stakes : List ℕ) (core : Core) (votes timeouts r out :
   module _ (room : Bool) where
     -- ---- the order of refusals
 
-    module _ {k : Kind} (e : k ≡ form_of r) {bad : Bool} (f : bad ≡ is_bad k) where
-      pub begin-bad : {b : Begun} → bad ≡ true → b ≡ early_begun seat core bad_record
+    module _ {f : Option Kind} (e : f ≡ form_of r) where
+      pub begin-bad : {b : Begun} → f ≡ None → b ≡ early_begun seat core bad_record
           → Begins (staged_of seat stakes (whole core votes timeouts) room r) room r out b stakes votes timeouts out
       unfolding staged_of
-      begin-bad h i = rw (← e, ← f, h) (begins-early room bad_record i)
+      begin-bad h i = rw (← e, h) (begins-early room bad_record i)
 
-      module _ (good : bad ≡ false) {st : Setup} (s : st ≡ started_of seat stakes votes timeouts) {first : Bool} (g : first ≡ is_start k) where
-        pub begin-start : {b : Begun} {stakes' votes' timeouts' out' : List ℕ} → st ≡ Bad → first ≡ true
+      module _ {k : Kind} (good : f ≡ Some k) {st : Option Stake} (s : st ≡ started_of seat stakes votes timeouts) {first : Bool} (g : first ≡ is_start k) where
+        pub begin-start : {b : Begun} {stakes' votes' timeouts' out' : List ℕ} → st ≡ None → first ≡ true
             → Begins (started_in seat stakes (whole core votes timeouts) room r) room r out b stakes' votes' timeouts' out'
             → Begins (staged_of seat stakes (whole core votes timeouts) room r) room r out b stakes' votes' timeouts' out'
         unfolding staged_of
-        begin-start h i p = rw (← e, ← f, good, ← s, h, ← g, i) p
+        begin-start h i p = rw (← e, good, ← s, h, ← g, i) p
 
-        pub begin-not-started : {b : Begun} → st ≡ Bad → first ≡ false → b ≡ early_begun seat core not_started
+        pub begin-not-started : {b : Begun} → st ≡ None → first ≡ false → b ≡ early_begun seat core not_started
             → Begins (staged_of seat stakes (whole core votes timeouts) room r) room r out b stakes votes timeouts out
         unfolding staged_of
-        begin-not-started h i p = rw (← e, ← f, good, ← s, h, ← g, i) (begins-early room not_started p)
+        begin-not-started h i p = rw (← e, good, ← s, h, ← g, i) (begins-early room not_started p)
 
-        pub begin-again : {t : Stake} {b : Begun} → st ≡ Total t → first ≡ true → b ≡ early_begun seat core started_again
+        pub begin-again : {t : Stake} {b : Begun} → st ≡ Some t → first ≡ true → b ≡ early_begun seat core started_again
             → Begins (staged_of seat stakes (whole core votes timeouts) room r) room r out b stakes votes timeouts out
         unfolding staged_of
-        begin-again h i p = rw (← e, ← f, good, ← s, h, ← g, i) (begins-early room started_again p)
+        begin-again h i p = rw (← e, good, ← s, h, ← g, i) (begins-early room started_again p)
 
-        pub begin-ready : {t : Stake} {b : Begun} {votes' timeouts' out' : List ℕ} → st ≡ Total t → first ≡ false
+        pub begin-ready : {t : Stake} {b : Begun} {votes' timeouts' out' : List ℕ} → st ≡ Some t → first ≡ false
             → Begins (ready_in seat stakes (whole core votes timeouts) room r k) room r out b stakes votes' timeouts' out'
             → Begins (staged_of seat stakes (whole core votes timeouts) room r) room r out b stakes votes' timeouts' out'
         unfolding staged_of
-        begin-ready h i p = rw (← e, ← f, good, ← s, h, ← g, i) p
+        begin-ready h i p = rw (← e, good, ← s, h, ← g, i) p
 
   module _ (slots : ℕ) {t : Bool} (e : t ≡ roomy slots (length out)) where
     abbrev roomful : Bool
@@ -121,7 +120,7 @@ module _ (seat : Seat) (stakes : List ℕ) (core : Core) (votes timeouts r out :
         unfolding ready_in
         ready-limited h n i = rw (← e, h, ← l, ne_eqb _ _ n) (begins-early true limit i)
 
-        module _ {total need : Stake} (s : started_of seat stakes votes timeouts ≡ Total total) (q : need.0 ≡ quorum_from total.0) where
+        module _ {total need : Stake} (s : started_of seat stakes votes timeouts ≡ Some total) (q : need.0 ≡ quorum_from total.0) where
           pub ready-handled : {m : List ℕ} {b : Begun} {x : Handed} {votes' timeouts' out' : List ℕ} → t ≡ true → limit ≡ 0 → m ≡ members_of seat stakes
               → Handles (handled_in m seat.own.0 (whole core votes timeouts) r k) m seat.own.0 r out x votes' timeouts' out'
               → b ≡ handed_begun seat need x
@@ -154,10 +153,6 @@ module _ (m : List ℕ) (own : ℕ) (core : Core) (votes timeouts r out : List �
   handed-early : (n : ℕ) → Handles (alone (refused n (whole core votes timeouts))) m own r out (record { answer = n; core = core; at = 0; does = 0 }) votes timeouts out
   handed-early n =
       record { does = refl; answer = refl; did = did-quiet first_most core votes timeouts out 0; going = λ (h : ◌≡◌ {A = ℕ} 0 2). absurd (omega arith) }
-
-  pub handle-bad : {k : Kind} → k ≡ Kind.Bad
-      → Handles (handled_in m own (whole core votes timeouts) r k) m own r out (record { answer = 16; core = core; at = 0; does = 0 }) votes timeouts out
-  handle-bad e = rw e (handed-early bad_record)
 
   pub handle-start : {k : Kind} → k ≡ Kind.Start
       → Handles (handled_in m own (whole core votes timeouts) r k) m own r out (record { answer = 34; core = core; at = 0; does = 0 }) votes timeouts out
@@ -288,7 +283,7 @@ module _ (seat : Seat) (stakes : List ℕ) (core : Core) (votes timeouts r out :
       → Boots r (length stakes) (length votes) (length timeouts) (length out) total → taken ≡ new_seat r
       → Filled r stakes votes timeouts stakes' votes' timeouts' → fresh ≡ new_core
       → Wrote announced_most (announced (take (taken.count - 0) (drop 0 stakes')) taken.own.0 fresh) out 0 out' at
-      → Begins (booted_by seat stakes (whole core votes timeouts) r (Total total)) true r out
+      → Begins (booted_by seat stakes (whole core votes timeouts) r (Some total)) true r out
       (record { seat = taken; answer = 0; core = fresh; at = at; does = 1; need = record { 0 = 0 } }) stakes' votes' timeouts' out'
   unfolding new_stakes
   boots {stakes' = stakes'} {taken = taken} b e f n w =
@@ -317,12 +312,12 @@ module _ (slots room stakes votes timeouts : ℕ) (r : List ℕ) {t : Bool} (e :
     unfolding booting_of
     booting-sizeless h = rw (← e, y, ← f, h)
 
-    module _ (z : size ≡ true) {body : List ℕ} (c : body ≡ drop 2 r) {st : Setup} (d : st ≡ setup_at body) where
-      pub booting-bad : st ≡ Bad → BadSetup ≡ booting_of (roomy slots room) (sized stakes votes timeouts) (setup_at (drop 2 r))
+    module _ (z : size ≡ true) {body : List ℕ} (c : body ≡ drop 2 r) {st : Option Stake} (d : st ≡ setup_at body) where
+      pub booting-bad : st ≡ None → BadSetup ≡ booting_of (roomy slots room) (sized stakes votes timeouts) (setup_at (drop 2 r))
       unfolding booting_of
       booting-bad h = rw (← e, y, ← f, z, ← c, ← d, h)
 
-      pub booting-good : {total : Stake} → st ≡ Total total → Good total ≡ booting_of (roomy slots room) (sized stakes votes timeouts) (setup_at (drop 2 r))
+      pub booting-good : {total : Stake} → st ≡ Some total → Good total ≡ booting_of (roomy slots room) (sized stakes votes timeouts) (setup_at (drop 2 r))
       unfolding booting_of
       booting-good h = rw (← e, y, ← f, z, ← c, ← d, h)
 
@@ -332,16 +327,16 @@ module _ (seat : Seat) (stakes : List ℕ) (core : Core) (votes timeouts r out :
   abbrev booted_as : Booting → Stage
   booted_as NoRoom = ended seat stakes (refused no_room (whole core votes timeouts))
   booted_as BadSetup = ended seat stakes (refused bad_setup (whole core votes timeouts))
-  booted_as (Good t) = booted_by seat stakes (whole core votes timeouts) r (Total t)
+  booted_as (Good t) = booted_by seat stakes (whole core votes timeouts) r (Some t)
 
-  booted-as : (room size : Bool) (st : Setup)
+  booted-as : (room size : Bool) (st : Option Stake)
       → cond room (cond size (booted_by seat stakes (whole core votes timeouts) r st) (ended seat stakes (refused no_room (whole core votes timeouts)))) (ended seat stakes (refused no_room (whole core votes timeouts)))
       ≡ booted_as (booting_of room size st)
   unfolding booting_of
   booted-as false size st = refl
   booted-as true false st = refl
-  booted-as true true Bad = refl
-  booted-as true true (Total t) = refl
+  booted-as true true None = refl
+  booted-as true true (Some t) = refl
 
   module _ (slots : ℕ) {k : Booting} (e : k ≡ booting_of (roomy slots (length out)) (sized (length stakes) (length votes) (length timeouts)) (setup_at (drop 2 r))) where
     started-as : started_in seat stakes (whole core votes timeouts) (roomy slots (length out)) r ≡ booted_as k
@@ -357,10 +352,10 @@ module _ (seat : Seat) (stakes : List ℕ) (core : Core) (votes timeouts r out :
     start-bad-setup h i = rw (started-as, h) (begins-early seat stakes core votes timeouts r out (roomy slots (length out)) bad_setup i)
 
     -- what `boot` asks for
-    booted-has : (room size : Bool) (st : Setup) (t : Stake) → booting_of room size st ≡ Good t → (room ≡ true) × (size ≡ true) × (st ≡ Total t)
+    booted-has : (room size : Bool) (st : Option Stake) (t : Stake) → booting_of room size st ≡ Good t → (room ≡ true) × (size ≡ true) × (st ≡ Some t)
     unfolding booting_of
-    booted-has true true (Total u) t h = (refl, refl, ap Total (let z : u ≡ t = cc in z))
-    booted-has true true Bad t h = absurd (let z : ◌≡◌ {A = ℕ} 0 1 = cc in omega arith)
+    booted-has true true (Some u) t h = (refl, refl, ap Some (let z : u ≡ t = cc in z))
+    booted-has true true None t h = absurd (let z : ◌≡◌ {A = ℕ} 0 1 = cc in omega arith)
     booted-has true false st t h = absurd (let z : ◌≡◌ {A = ℕ} 0 1 = cc in omega arith)
     booted-has false size st t h = absurd (let z : ◌≡◌ {A = ℕ} 0 1 = cc in omega arith)
 
@@ -373,7 +368,7 @@ module _ (seat : Seat) (stakes : List ℕ) (core : Core) (votes timeouts r out :
     boot-needs h = (start_has h).1
 
     pub start-boots : {t : Stake} {b : Begun} {stakes' votes' timeouts' out' : List ℕ} → k ≡ Good t
-        → Begins (booted_by seat stakes (whole core votes timeouts) r (Total t)) true r out b stakes' votes' timeouts' out'
+        → Begins (booted_by seat stakes (whole core votes timeouts) r (Some t)) true r out b stakes' votes' timeouts' out'
         → Begins (started_in seat stakes (whole core votes timeouts) (roomy slots (length out)) r) (roomy slots (length out)) r out b stakes' votes' timeouts' out'
     start-boots h p = rw (started-as, h, (start_has h).0) p
 
@@ -429,6 +424,6 @@ module _ (b : Begun) (r stakes : List ℕ) {votes timeouts : List ℕ} (o : Ongo
   concludes core p = let q = rw (members-part b.seat stakes, e) at p in record { answer = q.answer; sits = refl; did = q.did }
 
 -- what `ready` asks for
-pub ready-needs : (seat : Seat) (stakes votes timeouts : List ℕ) {st : Setup} {t : Stake} → st ≡ started_of seat stakes votes timeouts → st ≡ Total t
-    → started_of seat stakes votes timeouts ≡ Total t
+pub ready-needs : (seat : Seat) (stakes votes timeouts : List ℕ) {st : Option Stake} {t : Stake} → st ≡ started_of seat stakes votes timeouts → st ≡ Some t
+    → started_of seat stakes votes timeouts ≡ Some t
 ready-needs seat stakes votes timeouts e h = sym e ∙ h

@@ -5,15 +5,15 @@ use mathlib.Core.List.{List, [], ◌++◌, append-nil}
 use mathlib.Core.Path.{◌≡◌, refl, ◌∙◌, ap}
 use lib.Dec.{eqb}
 use lib.ListN.{length, drop}
+use Rattle.std.specs.Prelude.{Option, None, Some}
 use Rattle.certificates.specs.Start.{setup_at}
-use Rattle.certificates.specs.declared.config.Setup.{Setup}
-use Rattle.certificates.specs.declared.config.Setup.TheVariants.{Bad, Total}
+use Rattle.certificates.specs.declared.numbers.Stake.{Stake}
 use Rattle.trace.specs.declared.events.Kind.{Kind}
 use Rattle.trace.specs.declared.events.Block.{Block}
 use Rattle.trace.specs.Form.{form_of}
 use Rattle.trace.specs.Limits.{limit_of}
 use Rattle.trace.specs.Fields.{block_of}
-use Rattle.certificates.specs.Error.{bad_record, no_room, not_started}
+use Rattle.certificates.specs.Error.{no_room, not_started}
 use Rattle.outputs.specs.Records.{Rec}
 use Rattle.moves.specs.State.{State, with_core, with_committed}
 use Rattle.moves.specs.Outcome.{Outcome, quiet, done, after, refused}
@@ -27,7 +27,7 @@ use Rattle.replica.specs.declared.started.Seat.{Seat}
 use Rattle.replica.specs.Started.{members_of, roomy}
 use Rattle.replica.specs.Blocks.{settled_for, settled_step, after_settled, processed, processed_table, going_on, going_on_table}
 use Rattle.replica.specs.Step.{World, Result, refused_in, in_world, new_seat, new_stakes, begun, begun_by, started, sized_in, on_start, on_other, on_kind, handled, stepped}
-use Rattle.replica.specs.Stages.{ended, by_proposal, handled_in, in_seat, ready_in, booted_by, started_in, is_start, is_bad, by_setup, staged_of, finished_of, stage_work, followed, concluded, together}
+use Rattle.replica.specs.Stages.{ended, by_proposal, handled_in, in_seat, ready_in, booted_by, started_in, is_start, by_setup, staged_by, staged_of, finished_of, stage_work, followed, concluded, together}
 
 -- what is left of a world
 abbrev left : Seat → List ℕ → List Slot → Outcome → Result
@@ -111,7 +111,6 @@ module _ (w : World) (r : List ℕ) where
   together-proposal p false e = rw e (together-ended seat stakes p.out w.table (block_of r))
 
   pub together-handled : (k : Kind) → together (in_seat seat stakes (handled_in m seat.own.0 w.state r k)) w.table (block_of r) ≡ handled w r k
-  together-handled Kind.Bad = together-ended seat stakes _ w.table (block_of r)
   together-handled Kind.Start = together-ended seat stakes _ w.table (block_of r)
   together-handled Kind.Propose = together-proposal _ _ refl
   together-handled Kind.Vote = together-ended seat stakes _ w.table (block_of r)
@@ -129,9 +128,9 @@ module _ (w : World) (r : List ℕ) where
   together-limited k true false = together-ended seat stakes _ w.table (block_of r)
   together-limited k false good = together-ended seat stakes _ w.table (block_of r)
 
-  together-booted : (st : Setup) → together (booted_by seat stakes w.state r st) w.table (block_of r) ≡ begun_by w r st
-  together-booted Bad = together-ended seat stakes _ w.table (block_of r)
-  together-booted (Total t) = together-cleared (new_seat r) (new_stakes r) _ w.table (block_of r)
+  together-booted : (st : Option Stake) → together (booted_by seat stakes w.state r st) w.table (block_of r) ≡ begun_by w r st
+  together-booted None = together-ended seat stakes _ w.table (block_of r)
+  together-booted (Some t) = together-cleared (new_seat r) (new_stakes r) _ w.table (block_of r)
 
   together-start : (roomful size : Bool)
       → together (cond roomful (cond size (booted_by seat stakes w.state r (setup_at (drop 2 r))) (ended seat stakes (refused no_room w.state))) (ended seat stakes (refused no_room w.state))) w.table (block_of r)
@@ -144,27 +143,25 @@ module _ (w : World) (r : List ℕ) where
     abbrev roomful : Bool
     roomful = roomy (length w.table) room
 
-    other : (k : Kind) (st : Setup) → is_start k ≡ false → together (by_setup seat stakes w.state roomful r k st) w.table (block_of r) ≡ on_other w room r k st
+    other : (k : Kind) (st : Option Stake) → is_start k ≡ false → together (by_setup seat stakes w.state roomful r k st) w.table (block_of r) ≡ on_other w room r k st
     unfolding ready_in
-    other k Bad e = rw e (together-ended seat stakes (refused not_started w.state) w.table (block_of r))
-    other k (Total t) e = rw e (together-limited k roomful (eqb (limit_of r k) 0))
+    other k None e = rw e (together-ended seat stakes (refused not_started w.state) w.table (block_of r))
+    other k (Some t) e = rw e (together-limited k roomful (eqb (limit_of r k) 0))
 
-    started-first : (st : Setup) → together (by_setup seat stakes w.state roomful r Kind.Start st) w.table (block_of r) ≡ on_start w room r st
+    started-first : (st : Option Stake) → together (by_setup seat stakes w.state roomful r Kind.Start st) w.table (block_of r) ≡ on_start w room r st
     unfolding started_in begun
-    started-first Bad = together-start roomful (sized_in w)
-    started-first (Total t) = together-ended seat stakes _ w.table (block_of r)
+    started-first None = together-start roomful (sized_in w)
+    started-first (Some t) = together-ended seat stakes _ w.table (block_of r)
 
-    by_kind : (k : Kind)
-        → together (cond (is_bad k) (ended seat stakes (refused bad_record w.state)) (by_setup seat stakes w.state roomful r k (started w))) w.table (block_of r)
-        ≡ on_kind w room r k
-    by_kind Kind.Bad = together-ended seat stakes _ w.table (block_of r)
-    by_kind Kind.Start = started-first (started w)
-    by_kind Kind.Propose = other Kind.Propose (started w) refl
-    by_kind Kind.Vote = other Kind.Vote (started w) refl
-    by_kind Kind.Timeout = other Kind.Timeout (started w) refl
-    by_kind Kind.Tc = other Kind.Tc (started w) refl
-    by_kind Kind.Loopback = other Kind.Loopback (started w) refl
-    by_kind Kind.Tick = other Kind.Tick (started w) refl
+    by_kind : (k : Option Kind) → together (staged_by seat stakes w.state roomful r k) w.table (block_of r) ≡ on_kind w room r k
+    by_kind None = together-ended seat stakes _ w.table (block_of r)
+    by_kind (Some Kind.Start) = started-first (started w)
+    by_kind (Some Kind.Propose) = other Kind.Propose (started w) refl
+    by_kind (Some Kind.Vote) = other Kind.Vote (started w) refl
+    by_kind (Some Kind.Timeout) = other Kind.Timeout (started w) refl
+    by_kind (Some Kind.Tc) = other Kind.Tc (started w) refl
+    by_kind (Some Kind.Loopback) = other Kind.Loopback (started w) refl
+    by_kind (Some Kind.Tick) = other Kind.Tick (started w) refl
 
     -- the three parts of an event are the event
     pub stages-step : together (staged_of seat stakes w.state roomful r) w.table (block_of r) ≡ stepped w room r

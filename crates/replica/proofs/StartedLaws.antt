@@ -8,10 +8,9 @@ use borrow.Author.Tests.{eq-eqb, ne_eqb, le-leb, lt-leb, lt-ltb, le-ltb, eqb-tru
 use lib.Dec.{eqb, ltb, leb}
 use lib.ListN.{length, take, drop}
 use lib.Seq.{length-take-le}
+use Rattle.std.specs.Prelude.{Option, None, Some}
 use Rattle.certificates.specs.Config.{members_max, total_max, sum, setup_of}
 use Rattle.certificates.specs.declared.numbers.Stake.{Stake}
-use Rattle.certificates.specs.declared.config.Setup.{Setup}
-use Rattle.certificates.specs.declared.config.Setup.TheVariants.{Bad, Total}
 use Rattle.certificates.proofs.ConfigLaws.{within}
 use Rattle.aggregator.specs.Tally.{vote_width, timeout_width}
 use Rattle.aggregator.specs.Tallies.{vote_tallies, timeout_tallies, votes_length, timeouts_length, heavy, any_heavy}
@@ -21,10 +20,10 @@ use Rattle.replica.specs.declared.started.Seat.{Seat}
 use Rattle.replica.specs.Started.{members_of, sized, shaped, light_in, started_of, slots_max, room_for, roomy}
 
 -- a setup that is bad is none with a total
-bad≢total : {t : Stake} → ◌≡◌ {A = Setup} Bad (Total t) → ⊥
+bad≢total : {t : Stake} → ◌≡◌ {A = Option Stake} None (Some t) → ⊥
 bad≢total e = let z : ◌≡◌ {A = ℕ} 0 1 = cc in omega arith
 
-total-same : {t u : Stake} → ◌≡◌ {A = Setup} (Total u) (Total t) → u ≡ t
+total-same : {t u : Stake} → ◌≡◌ {A = Option Stake} (Some u) (Some t) → u ≡ t
 total-same e = cc
 
 -- ---- back from a test to its facts
@@ -86,20 +85,20 @@ module _ (stakes votes timeouts : ℕ) where
     unfolding shaped
     shaped-many a = rw (lt-leb _ _ a)
 
-light-by : (a b : Bool) (t : Stake) → cond (not (a || b)) (Total t) Bad ≡ cond a Bad (cond b Bad (Total t))
+light-by : (a b : Bool) (t : Stake) → cond (not (a || b)) (Some t) None ≡ cond a None (cond b None (Some t))
 light-by true b t = refl
 light-by false true t = refl
 light-by false false t = refl
 
 module _ (votes timeouts : List ℕ) (t : Stake) {l : Bool} (e : l ≡ not (any_heavy votes timeouts t.0)) where
-  light-is : cond l (Total t) Bad ≡ light_in votes timeouts (Total t)
+  light-is : cond l (Some t) None ≡ light_in votes timeouts (Some t)
   unfolding any_heavy
   light-is = rw e (light-by (heavy vote_width vote_tallies votes t.0) (heavy timeout_width timeout_tallies timeouts t.0) t)
 
-  pub light-all : l ≡ true → Total t ≡ light_in votes timeouts (Total t)
+  pub light-all : l ≡ true → Some t ≡ light_in votes timeouts (Some t)
   light-all h = rw h at light-is
 
-  pub light-not : l ≡ false → Bad ≡ light_in votes timeouts (Total t)
+  pub light-not : l ≡ false → None ≡ light_in votes timeouts (Some t)
   light-not h = rw h at light-is
 
 -- the committee, as it is lent out of the stakes
@@ -107,16 +106,16 @@ pub members-part : (seat : Seat) (stakes : List ℕ) → take (seat.count - 0) (
 members-part seat stakes = let e : seat.count - 0 ≡ seat.count = omega arith in rw e
 
 module _ (seat : Seat) (stakes votes timeouts : List ℕ) {b : Bool} (e : b ≡ shaped seat (length stakes) (length votes) (length timeouts)) where
-  pub started-shapeless : b ≡ false → Bad ≡ started_of seat stakes votes timeouts
+  pub started-shapeless : b ≡ false → None ≡ started_of seat stakes votes timeouts
   unfolding started_of
   started-shapeless h = rw (← e, h)
 
-  module _ (h : b ≡ true) {st : Setup} (f : st ≡ setup_of (take (seat.count - 0) (drop 0 stakes))) where
-    pub started-bad : st ≡ Bad → Bad ≡ started_of seat stakes votes timeouts
+  module _ (h : b ≡ true) {st : Option Stake} (f : st ≡ setup_of (take (seat.count - 0) (drop 0 stakes))) where
+    pub started-bad : st ≡ None → None ≡ started_of seat stakes votes timeouts
     unfolding started_of
     started-bad i = rw (← e, h, ← members-part seat stakes, ← f, i)
 
-    pub started-good : {t : Stake} {r : Setup} → st ≡ Total t → r ≡ light_in votes timeouts (Total t) → r ≡ started_of seat stakes votes timeouts
+    pub started-good : {t : Stake} {r : Option Stake} → st ≡ Some t → r ≡ light_in votes timeouts (Some t) → r ≡ started_of seat stakes votes timeouts
     unfolding started_of
     started-good i j = rw (← e, h, ← members-part seat stakes, ← f, i) j
 
@@ -135,22 +134,22 @@ module _ (slots room : ℕ) where
 
 -- ---- a record that counts as started
 
-good-setup : (votes timeouts : List ℕ) (st : Setup) (v k : Bool) (t u : Stake)
-    → st ≡ Total u → heavy vote_width vote_tallies votes u.0 ≡ v → heavy timeout_width timeout_tallies timeouts u.0 ≡ k → light_in votes timeouts st ≡ Total t
+good-setup : (votes timeouts : List ℕ) (st : Option Stake) (v k : Bool) (t u : Stake)
+    → st ≡ Some u → heavy vote_width vote_tallies votes u.0 ≡ v → heavy timeout_width timeout_tallies timeouts u.0 ≡ k → light_in votes timeouts st ≡ Some t
     → (u ≡ t) × (v ≡ false) × (k ≡ false)
 good-setup votes timeouts st true k t u s e f h = absurd (bad≢total (rw (s, e) at h))
 good-setup votes timeouts st false true t u s e f h = absurd (bad≢total (rw (s, e, f) at h))
 good-setup votes timeouts st false false t u s e f h = (total-same (rw (s, e, f) at h), refl, refl)
 
-light-parts : (votes timeouts : List ℕ) (st : Setup) (t : Stake) → light_in votes timeouts st ≡ Total t
-    → (st ≡ Total t) × (heavy vote_width vote_tallies votes t.0 ≡ false) × (heavy timeout_width timeout_tallies timeouts t.0 ≡ false)
-light-parts votes timeouts Bad t h = absurd (bad≢total h)
-light-parts votes timeouts (Total u) t h =
-    let p = good-setup votes timeouts (Total u) _ _ t u refl refl refl h in
-    (ap Total p.0, rw p.0 at p.1, rw p.0 at p.2)
+light-parts : (votes timeouts : List ℕ) (st : Option Stake) (t : Stake) → light_in votes timeouts st ≡ Some t
+    → (st ≡ Some t) × (heavy vote_width vote_tallies votes t.0 ≡ false) × (heavy timeout_width timeout_tallies timeouts t.0 ≡ false)
+light-parts votes timeouts None t h = absurd (bad≢total h)
+light-parts votes timeouts (Some u) t h =
+    let p = good-setup votes timeouts (Some u) _ _ t u refl refl refl h in
+    (ap Some p.0, rw p.0 at p.1, rw p.0 at p.2)
 
-started-parts : (seat : Seat) (stakes votes timeouts : List ℕ) (b : Bool) (t : Stake) → cond b (light_in votes timeouts (setup_of (members_of seat stakes))) Bad ≡ Total t
-    → (b ≡ true) × (light_in votes timeouts (setup_of (members_of seat stakes)) ≡ Total t)
+started-parts : (seat : Seat) (stakes votes timeouts : List ℕ) (b : Bool) (t : Stake) → cond b (light_in votes timeouts (setup_of (members_of seat stakes))) None ≡ Some t
+    → (b ≡ true) × (light_in votes timeouts (setup_of (members_of seat stakes)) ≡ Some t)
 started-parts seat stakes votes timeouts true t h = (refl, h)
 started-parts seat stakes votes timeouts false t h = absurd (bad≢total h)
 
@@ -160,7 +159,7 @@ pub record Ready (seat : Seat) (stakes votes timeouts : List ℕ) (t : Stake) : 
   pub sound : Sound (members_of seat stakes) seat.own.0 votes timeouts
   pub total : t.0 ≡ sum (members_of seat stakes)
 
-pub started-ready : (seat : Seat) (stakes votes timeouts : List ℕ) (t : Stake) → started_of seat stakes votes timeouts ≡ Total t → Ready seat stakes votes timeouts t
+pub started-ready : (seat : Seat) (stakes votes timeouts : List ℕ) (t : Stake) → started_of seat stakes votes timeouts ≡ Some t → Ready seat stakes votes timeouts t
 unfolding started_of
 started-ready seat stakes votes timeouts t h =
     let a = started-parts seat stakes votes timeouts (shaped seat (length stakes) (length votes) (length timeouts)) t h in

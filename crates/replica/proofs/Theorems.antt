@@ -10,9 +10,9 @@ use mathlib.Core.List.{List}
 use mathlib.Core.Path.{◌≡◌, refl, sym, ◌∙◌}
 use lib.ListN.{length, drop}
 use lib.Seq.{drop-append_seam}
+use Rattle.std.specs.Prelude.{None, Some}
 use Rattle.certificates.specs.Error.{bad_record, bad_setup, no_room, not_started, started_again}
 use Rattle.certificates.specs.Start.{setup_at}
-use Rattle.certificates.specs.declared.config.Setup.TheVariants.{Bad, Total}
 use Rattle.certificates.specs.declared.numbers.Stake.{Stake}
 use Rattle.trace.specs.declared.events.Kind.{Kind}
 use Rattle.trace.specs.Form.{form_of}
@@ -20,7 +20,7 @@ use Rattle.trace.specs.Limits.{limit_of}
 use Rattle.outputs.specs.Records.{enc_all}
 use Rattle.replica.specs.Started.{roomy}
 use Rattle.replica.specs.Step.{World, Result, Left, laid, refused_in, begun, sized_in, on_kind, on_other, started, stepped}
-use Rattle.replica.specs.Stages.{is_start, is_bad}
+use Rattle.replica.specs.Stages.{is_start}
 
 -- two outcomes that the contract permits are one
 pub step-unique : {a b : Left} (w : World) (out r : List ℕ) → a ≡ laid (stepped w (length out) r) out → b ≡ laid (stepped w (length out) r) out → a ≡ b
@@ -40,46 +40,45 @@ refused-left n w out = refl
 
 module _ (w : World) (room : ℕ) (r : List ℕ) where
   -- 16 first, whatever else holds
-  pub bad-record : form_of r ≡ Kind.Bad → stepped w room r ≡ refused_in bad_record w
+  pub bad-record : form_of r ≡ None → stepped w room r ≡ refused_in bad_record w
   unfolding stepped
   bad-record e = rw e
 
   -- then 34 for START
-  pub again : {t : Stake} → form_of r ≡ Kind.Start → started w ≡ Total t → stepped w room r ≡ refused_in started_again w
+  pub again : {t : Stake} → form_of r ≡ Some Kind.Start → started w ≡ Some t → stepped w room r ≡ refused_in started_again w
   unfolding stepped
   again e s = rw (e, s)
 
   -- and 18
-  pub start-roomless : form_of r ≡ Kind.Start → started w ≡ Bad → roomy (length w.table) room ≡ false → stepped w room r ≡ refused_in no_room w
+  pub start-roomless : form_of r ≡ Some Kind.Start → started w ≡ None → roomy (length w.table) room ≡ false → stepped w room r ≡ refused_in no_room w
   unfolding stepped
   start-roomless e s h = rw (e, s, h)
 
   -- 17 comes after 18
-  pub start-bad : form_of r ≡ Kind.Start → started w ≡ Bad → roomy (length w.table) room ≡ true → sized_in w ≡ true → setup_at (drop 2 r) ≡ Bad
+  pub start-bad : form_of r ≡ Some Kind.Start → started w ≡ None → roomy (length w.table) room ≡ true → sized_in w ≡ true → setup_at (drop 2 r) ≡ None
       → stepped w room r ≡ refused_in bad_setup w
   unfolding stepped begun
   start-bad e s h z b = rw (e, s, h, z, b)
 
   -- any other record: 33, then 18, then what its limits say
-  module _ (k : Kind) (n : is_bad k ≡ false) (o : is_start k ≡ false) where
-    other-kind : on_kind w room r k ≡ on_other w room r k (started w)
-    other-kind = by_kind k n o
+  module _ (k : Kind) (o : is_start k ≡ false) where
+    other-kind : on_kind w room r (Some k) ≡ on_other w room r k (started w)
+    other-kind = by_kind k o
       where
-        by_kind : (k : Kind) → is_bad k ≡ false → is_start k ≡ false → on_kind w room r k ≡ on_other w room r k (started w)
-        by_kind Kind.Bad n o = absurd (true≢false n)
-        by_kind Kind.Start n o = absurd (true≢false o)
-        by_kind Kind.Propose n o = refl
-        by_kind Kind.Vote n o = refl
-        by_kind Kind.Timeout n o = refl
-        by_kind Kind.Tc n o = refl
-        by_kind Kind.Loopback n o = refl
-        by_kind Kind.Tick n o = refl
+        by_kind : (k : Kind) → is_start k ≡ false → on_kind w room r (Some k) ≡ on_other w room r k (started w)
+        by_kind Kind.Start o = absurd (true≢false o)
+        by_kind Kind.Propose o = refl
+        by_kind Kind.Vote o = refl
+        by_kind Kind.Timeout o = refl
+        by_kind Kind.Tc o = refl
+        by_kind Kind.Loopback o = refl
+        by_kind Kind.Tick o = refl
 
-    pub not-started : form_of r ≡ k → started w ≡ Bad → stepped w room r ≡ refused_in not_started w
+    pub not-started : form_of r ≡ Some k → started w ≡ None → stepped w room r ≡ refused_in not_started w
     unfolding stepped
     not-started e s = rw e (other-kind ∙ rw s)
 
-    module _ {t : Stake} (e : form_of r ≡ k) (s : started w ≡ Total t) where
+    module _ {t : Stake} (e : form_of r ≡ Some k) (s : started w ≡ Some t) where
       pub roomless : roomy (length w.table) room ≡ false → stepped w room r ≡ refused_in no_room w
       unfolding stepped
       roomless h = rw e (other-kind ∙ rw (s, h))

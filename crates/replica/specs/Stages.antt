@@ -6,12 +6,11 @@
 --     finished_of               the last part
 --     together                  the three, as one result
 --     Begins, Finishes          what the code of the two parts did
-use Rattle.std.specs.Prelude.{ℕ, ◌+◌, ◌≤◌, Bool, true, false, cond, List, ◌++◌, ◌≡◌, eqb, length, drop}
+use Rattle.std.specs.Prelude.{ℕ, ◌+◌, ◌≤◌, Bool, true, false, cond, List, ◌++◌, ◌≡◌, eqb, length, drop, Option, None, Some}
 use Rattle.certificates.specs.Config.{quorum_of}
 use Rattle.certificates.specs.Start.{setup_at, loaded_stakes}
 use Rattle.certificates.specs.Error.{bad_record, bad_setup, no_room, not_started, started_again}
 use Rattle.certificates.specs.declared.numbers.Stake.{Stake}
-use Rattle.certificates.specs.declared.config.Setup.{Setup}
 use Rattle.trace.specs.declared.events.Kind.{Kind}
 use Rattle.trace.specs.declared.events.Block.{Block}
 use Rattle.trace.specs.Form.{form_of}
@@ -67,7 +66,6 @@ abbrev pub by_proposal : Proposal → Handled
 by_proposal p = record { does = cond p.goes_on 2 0; out = p.out }
 
 abbrev pub handled_in : List ℕ → ℕ → State → List ℕ → Kind → Handled
-handled_in m own s r Kind.Bad = alone (refused bad_record s)
 handled_in m own s r Kind.Start = alone (refused started_again s)
 handled_in m own s r Kind.Propose = by_proposal (proposal_of m s (block_of r) r (payload_of r))
 handled_in m own s r Kind.Vote = alone (handled_vote m own s (vote_of r))
@@ -89,17 +87,17 @@ ready_in seat stakes s room r k =
 
 -- ---- START
 
-abbrev pub booted_by : Seat → List ℕ → State → List ℕ → Setup → Stage
-booted_by seat stakes s r Setup.Bad = ended seat stakes (refused bad_setup s)
-booted_by seat stakes s r (Setup.Total t) =
+abbrev pub booted_by : Seat → List ℕ → State → List ℕ → Option Stake → Stage
+booted_by seat stakes s r None = ended seat stakes (refused bad_setup s)
+booted_by seat stakes s r (Some t) =
     record { does = 1; seat = new_seat r; stakes = new_stakes r; out = done 0 (record { state = new_state; outs = start_outs r }) }
 
 -- what a record of START meets: 18, 17, or a good setup
-abbrev pub booting_by : Setup → Booting
-booting_by Setup.Bad = BadSetup
-booting_by (Setup.Total t) = Good t
+abbrev pub booting_by : Option Stake → Booting
+booting_by None = BadSetup
+booting_by (Some t) = Good t
 
-unfoldable pub booting_of : Bool → Bool → Setup → Booting
+unfoldable pub booting_of : Bool → Bool → Option Stake → Booting
 booting_of room size st = cond room (cond size (booting_by st) NoRoom) NoRoom
 
 unfoldable pub started_in : Seat → List ℕ → State → Bool → List ℕ → Stage
@@ -114,7 +112,6 @@ started_in seat stakes s room r =
 
 abbrev pub is_start : Kind → Bool
 is_start Kind.Start = true
-is_start Kind.Bad = false
 is_start Kind.Propose = false
 is_start Kind.Vote = false
 is_start Kind.Timeout = false
@@ -122,24 +119,16 @@ is_start Kind.Tc = false
 is_start Kind.Loopback = false
 is_start Kind.Tick = false
 
-abbrev pub is_bad : Kind → Bool
-is_bad Kind.Bad = true
-is_bad Kind.Start = false
-is_bad Kind.Propose = false
-is_bad Kind.Vote = false
-is_bad Kind.Timeout = false
-is_bad Kind.Tc = false
-is_bad Kind.Loopback = false
-is_bad Kind.Tick = false
+abbrev pub by_setup : Seat → List ℕ → State → Bool → List ℕ → Kind → Option Stake → Stage
+by_setup seat stakes s room r k None = cond (is_start k) (started_in seat stakes s room r) (ended seat stakes (refused not_started s))
+by_setup seat stakes s room r k (Some t) = cond (is_start k) (ended seat stakes (refused started_again s)) (ready_in seat stakes s room r k)
 
-abbrev pub by_setup : Seat → List ℕ → State → Bool → List ℕ → Kind → Setup → Stage
-by_setup seat stakes s room r k Setup.Bad = cond (is_start k) (started_in seat stakes s room r) (ended seat stakes (refused not_started s))
-by_setup seat stakes s room r k (Setup.Total t) = cond (is_start k) (ended seat stakes (refused started_again s)) (ready_in seat stakes s room r k)
+abbrev pub staged_by : Seat → List ℕ → State → Bool → List ℕ → Option Kind → Stage
+staged_by seat stakes s room r None = ended seat stakes (refused bad_record s)
+staged_by seat stakes s room r (Some k) = by_setup seat stakes s room r k (started_of seat stakes s.votes s.timeouts)
 
 unfoldable pub staged_of : Seat → List ℕ → State → Bool → List ℕ → Stage
-staged_of seat stakes s room r =
-    cond (is_bad (form_of r)) (ended seat stakes (refused bad_record s))
-    (by_setup seat stakes s room r (form_of r) (started_of seat stakes s.votes s.timeouts))
+staged_of seat stakes s room r = staged_by seat stakes s room r (form_of r)
 
 -- ---- the last part
 
@@ -196,7 +185,7 @@ pub record Filled (r stakes votes timeouts stakes' votes' timeouts' : List ℕ) 
 -- what START is known to be before it is
 pub record Boots (r : List ℕ) (stakes votes timeouts out : ℕ) (total : Stake) : Type 0 where
   pub sizes : sized stakes votes timeouts ≡ true
-  pub setup : setup_at (drop 2 r) ≡ Setup.Total total
+  pub setup : setup_at (drop 2 r) ≡ Some total
   pub room : announced_most ≤ out
 
 -- what goes by value, as code makes it

@@ -4,10 +4,9 @@
 --     started_of seat stakes v t      the total stake, where the record counts as started
 --     slots_max, room_besides            the most slots of a table; the bytes of output besides COMMITs
 --     room_for slots, roomy slots room   a table of 1 to 1,024 slots, and room for the output
-use Rattle.std.specs.Prelude.{ℕ, ◌+◌, ◌*◌, Bool, false, cond, List, eqb, ltb, leb, length, take}
+use Rattle.std.specs.Prelude.{ℕ, ◌+◌, ◌*◌, Bool, false, cond, List, eqb, ltb, leb, length, take, Option, None, Some}
 use Rattle.certificates.specs.Config.{members_max, setup_of}
-use Rattle.certificates.specs.declared.config.Setup.{Setup}
-use Rattle.certificates.specs.declared.config.Setup.TheVariants.{Bad, Total}
+use Rattle.certificates.specs.declared.numbers.Stake.{Stake}
 use Rattle.outputs.specs.Records.{commit_size}
 use Rattle.aggregator.specs.Tally.{vote_width, timeout_width}
 use Rattle.aggregator.specs.Tallies.{vote_tallies, timeout_tallies, votes_length, timeouts_length, heavy}
@@ -27,15 +26,15 @@ shaped seat stakes votes timeouts =
     cond (leb seat.count members_max) (cond (ltb seat.own.0 seat.count) (sized stakes votes timeouts) false) false
 
 -- no used tally is heavier than the total
-abbrev pub light_in : List ℕ → List ℕ → Setup → Setup
-light_in votes timeouts Bad = Bad
-light_in votes timeouts (Total t) =
-    cond (heavy vote_width vote_tallies votes t.0) Bad (cond (heavy timeout_width timeout_tallies timeouts t.0) Bad (Total t))
+abbrev pub light_in : List ℕ → List ℕ → Option Stake → Option Stake
+light_in votes timeouts None = None
+light_in votes timeouts (Some t) =
+    cond (heavy vote_width vote_tallies votes t.0) None (cond (heavy timeout_width timeout_tallies timeouts t.0) None (Some t))
 
 -- "A replica record handed in with count, stakes or own place outside these limits, or a tally weight above the total, counts as not started."
-unfoldable pub started_of : Seat → List ℕ → List ℕ → List ℕ → Setup
+unfoldable pub started_of : Seat → List ℕ → List ℕ → List ℕ → Option Stake
 started_of seat stakes votes timeouts =
-    cond (shaped seat (length stakes) (length votes) (length timeouts)) (light_in votes timeouts (setup_of (members_of seat stakes))) Bad
+    cond (shaped seat (length stakes) (length votes) (length timeouts)) (light_in votes timeouts (setup_of (members_of seat stakes))) None
 
 -- "room: table not 1 to 1,024 slots, or output below 44*slots+2,048 bytes"
 abbrev pub slots_max : ℕ

@@ -6,12 +6,12 @@
 --     handled w k r              the event's own part
 --     stepped w room r           one event
 --     laid x out                 a result laid into a buffer: every byte of it
-use Rattle.std.specs.Prelude.{ℕ, ◌+◌, Bool, cond, List, [], ◌∷◌, ◌++◌, eqb, length, drop, replicate}
+use Rattle.std.specs.Prelude.{ℕ, ◌+◌, Bool, cond, List, [], ◌∷◌, ◌++◌, eqb, length, drop, replicate, Option, None, Some}
 use Rattle.certificates.specs.Numbers.{zero_hash}
 use Rattle.certificates.specs.Config.{members_max}
 use Rattle.certificates.specs.Start.{member_count, own_place, setup_at, loaded_stakes}
 use Rattle.certificates.specs.Error.{bad_record, bad_setup, no_room, not_started, started_again}
-use Rattle.certificates.specs.declared.config.Setup.{Setup}
+use Rattle.certificates.specs.declared.numbers.Stake.{Stake}
 use Rattle.trace.specs.declared.events.Kind.{Kind}
 use Rattle.trace.specs.declared.events.Block.{Block}
 use Rattle.trace.specs.Form.{form_of}
@@ -90,9 +90,9 @@ announced_most = timer_reset_size + make_size
 abbrev pub start_outs : List ℕ → List Rec
 start_outs r = announced (members_of (new_seat r) (new_stakes r)) (new_seat r).own.0 new_core
 
-abbrev pub begun_by : World → List ℕ → Setup → Result
-begun_by w r Setup.Bad = refused_in bad_setup w
-begun_by w r (Setup.Total t) =
+abbrev pub begun_by : World → List ℕ → Option Stake → Result
+begun_by w r None = refused_in bad_setup w
+begun_by w r (Some t) =
     record {
       answer = 0;
       world = record { seat = new_seat r; stakes = new_stakes r; state = new_state; table = cleared w.table };
@@ -111,7 +111,6 @@ abbrev pub gone_on : World → Block → Proposal → Result
 gone_on w b p = in_world w (going_on_table w.table b p) (going_on (committee w) w.seat.own.0 w.table b p)
 
 abbrev pub handled : World → List ℕ → Kind → Result
-handled w r Kind.Bad = refused_in bad_record w
 handled w r Kind.Start = refused_in started_again w
 handled w r Kind.Propose = gone_on w (block_of r) (proposal_of (committee w) w.state (block_of r) r (payload_of r))
 handled w r Kind.Vote = in_world w w.table (handled_vote (committee w) w.seat.own.0 w.state (vote_of r))
@@ -123,32 +122,32 @@ handled w r Kind.Tick = in_world w w.table (handled_tick (committee w) w.seat.ow
 
 -- ---- the order of refusals
 
-abbrev pub started : World → Setup
+abbrev pub started : World → Option Stake
 started w = started_of w.seat w.stakes w.state.votes w.state.timeouts
 
 abbrev pub sized_in : World → Bool
 sized_in w = sized (length w.stakes) (length w.state.votes) (length w.state.timeouts)
 
 -- a record of START: 34, 18, 17. Lent memory of other sizes cannot hold a replica: 18
-abbrev pub on_start : World → ℕ → List ℕ → Setup → Result
-on_start w room r (Setup.Total t) = refused_in started_again w
-on_start w room r Setup.Bad = cond (roomy (length w.table) room) (cond (sized_in w) (begun w r) (refused_in no_room w)) (refused_in no_room w)
+abbrev pub on_start : World → ℕ → List ℕ → Option Stake → Result
+on_start w room r (Some t) = refused_in started_again w
+on_start w room r None = cond (roomy (length w.table) room) (cond (sized_in w) (begun w r) (refused_in no_room w)) (refused_in no_room w)
 
 -- any other: 33, 18, then 32, 20, 19
-abbrev pub on_other : World → ℕ → List ℕ → Kind → Setup → Result
-on_other w room r k Setup.Bad = refused_in not_started w
-on_other w room r k (Setup.Total t) =
+abbrev pub on_other : World → ℕ → List ℕ → Kind → Option Stake → Result
+on_other w room r k None = refused_in not_started w
+on_other w room r k (Some t) =
     cond (roomy (length w.table) room) (cond (eqb (limit_of r k) 0) (handled w r k) (refused_in (limit_of r k) w)) (refused_in no_room w)
 
-abbrev pub on_kind : World → ℕ → List ℕ → Kind → Result
-on_kind w room r Kind.Bad = refused_in bad_record w
-on_kind w room r Kind.Start = on_start w room r (started w)
-on_kind w room r Kind.Propose = on_other w room r Kind.Propose (started w)
-on_kind w room r Kind.Vote = on_other w room r Kind.Vote (started w)
-on_kind w room r Kind.Timeout = on_other w room r Kind.Timeout (started w)
-on_kind w room r Kind.Tc = on_other w room r Kind.Tc (started w)
-on_kind w room r Kind.Loopback = on_other w room r Kind.Loopback (started w)
-on_kind w room r Kind.Tick = on_other w room r Kind.Tick (started w)
+abbrev pub on_kind : World → ℕ → List ℕ → Option Kind → Result
+on_kind w room r None = refused_in bad_record w
+on_kind w room r (Some Kind.Start) = on_start w room r (started w)
+on_kind w room r (Some Kind.Propose) = on_other w room r Kind.Propose (started w)
+on_kind w room r (Some Kind.Vote) = on_other w room r Kind.Vote (started w)
+on_kind w room r (Some Kind.Timeout) = on_other w room r Kind.Timeout (started w)
+on_kind w room r (Some Kind.Tc) = on_other w room r Kind.Tc (started w)
+on_kind w room r (Some Kind.Loopback) = on_other w room r Kind.Loopback (started w)
+on_kind w room r (Some Kind.Tick) = on_other w room r Kind.Tick (started w)
 
 unfoldable pub stepped : World → ℕ → List ℕ → Result
 stepped w room r = on_kind w room r (form_of r)

@@ -2,7 +2,6 @@
 ghost use Rattle.std.specs.Prelude.{◌≡◌, ◌+◌, ◌≤◌, true, length, drop};
 ghost use Rattle.certificates.specs.Config.{quorum_of};
 ghost use Rattle.certificates.specs.Start.{setup_at};
-ghost use Rattle.certificates.specs.declared.config.Setup.TheVariants.{Total};
 ghost use Rattle.trace.specs.declared.events.Kind.TheVariants.{Propose};
 ghost use Rattle.trace.specs.Limits.{limit_of};
 ghost use Rattle.trace.specs.Fields.{block_of};
@@ -13,11 +12,11 @@ ghost use Rattle.handlers.specs.Votes.{voting, voting_most};
 ghost use Rattle.replica.specs.Started.{members_of, sized, started_of, roomy};
 ghost use Rattle.replica.specs.Blocks.{slot_for};
 ghost use Rattle.replica.specs.Step.{new_core, new_seat, announced, announced_most};
-ghost use Rattle.replica.specs.Stages.{handled_in, ready_in, Filled, Boots, booted_by, booting_of, started_in, is_start, is_bad, staged_of, finished_of, no_slot, work_at, early_begun, ran_handed, handed_begun, first_most, Handles, Begins, Ongoing, Finishable, Finishes};
+ghost use Rattle.replica.specs.Stages.{handled_in, ready_in, Filled, Boots, booted_by, booting_of, started_in, is_start, staged_of, finished_of, no_slot, work_at, early_begun, ran_handed, handed_begun, first_most, Handles, Begins, Ongoing, Finishable, Finishes};
 
 use crate::started::{Seat, is_roomy, is_sized, total_of};
 use aggregator::tallies::clear;
-use certificates::config::{Setup, check_setup, load, member_count, own_place, quorum_threshold};
+use certificates::config::{check_setup, load, member_count, own_place, quorum_threshold};
 use certificates::error::{BAD_RECORD, BAD_SETUP, DONE, NO_ROOM, NOT_STARTED, STARTED_AGAIN};
 use certificates::messages::QC;
 use certificates::num::u64_at;
@@ -109,14 +108,8 @@ fn of_handed(seat: Seat, need: Stake, h: Handed) -> Begun
 fn new_core() -> Core
     ensures { result ≡ new_core }
 {
-    let zero = Hash {
-        a: 0,
-        b: 0,
-        c: 0,
-        d: 0,
-    };
     let high_qc = QC {
-        hash: zero,
+        hash: Hash::ZERO,
         round: Round(0),
         signers: Signers(0),
     };
@@ -168,7 +161,7 @@ fn boot(
     total: Stake,
 ) -> Begun
     requires { Boots input.now (length stakes.old) (length votes.old) (length timeouts.old) (length out.old) total }
-    ensures { Begins (booted_by seat stakes.old (whole core votes.old timeouts.old) input.now (Total total)) true input.now out.old result stakes.new votes.new timeouts.new out.new }
+    ensures { Begins (booted_by seat stakes.old (whole core votes.old timeouts.old) input.now (Some total)) true input.now out.old result stakes.new votes.new timeouts.new out.new }
 {
     let taken = seat_of(input);
     fill(stakes, votes, timeouts, input);
@@ -206,10 +199,10 @@ fn booting_of(
     if is_roomy(slots, room) {
         if is_sized(stakes, votes, timeouts) {
             match check_setup(body_of(input)) {
-                Setup::Bad => {
+                None => {
                     return Booting::BadSetup;
                 }
-                Setup::Total(total) => {
+                Some(total) => {
                     return Booting::Good(total);
                 }
             }
@@ -296,12 +289,6 @@ fn handle(
     ensures { Handles (handled_in members.now own.0 (whole core votes.old timeouts.old) input.now kind) members.now own.0 input.now out.old result votes.new timeouts.new out.new }
 {
     match kind {
-        Kind::Bad => Handed {
-            answer: BAD_RECORD,
-            core,
-            at: 0,
-            does: 0,
-        },
         Kind::Start => Handed {
             answer: STARTED_AGAIN,
             core,
@@ -344,7 +331,7 @@ fn ready(
     total: Stake,
     kind: Kind,
 ) -> Begun
-    requires { started_of seat stakes.now votes.old timeouts.old ≡ Total total }
+    requires { started_of seat stakes.now votes.old timeouts.old ≡ Some total }
     ensures { Begins (ready_in seat stakes.now (whole core votes.old timeouts.old) (roomy slots (length out.old)) input.now kind) (roomy slots (length out.old)) input.now out.old result stakes.now votes.new timeouts.new out.new }
 {
     if is_roomy(slots, out.len()) {
@@ -373,32 +360,7 @@ fn ready(
 fn is_start(kind: Kind) -> bool
     ensures { result ≡ is_start kind }
 {
-    match kind {
-        Kind::Start => true,
-        Kind::Bad => false,
-        Kind::Propose => false,
-        Kind::Vote => false,
-        Kind::Timeout => false,
-        Kind::Tc => false,
-        Kind::Loopback => false,
-        Kind::Tick => false,
-    }
-}
-
-// Whether a record had no form.
-pub fn is_bad(kind: Kind) -> bool
-    ensures { result ≡ is_bad kind }
-{
-    match kind {
-        Kind::Bad => true,
-        Kind::Start => false,
-        Kind::Propose => false,
-        Kind::Vote => false,
-        Kind::Timeout => false,
-        Kind::Tc => false,
-        Kind::Loopback => false,
-        Kind::Tick => false,
-    }
+    matches!(kind, Kind::Start)
 }
 
 // The first part of an event, in the order 16, then 34 or 33, then the rest.
@@ -414,18 +376,17 @@ pub fn begin(
 ) -> Begun
     ensures { Begins (staged_of seat stakes.old (whole core votes.old timeouts.old) (roomy slots (length out.old)) input.now) (roomy slots (length out.old)) input.now out.old result stakes.new votes.new timeouts.new out.new }
 {
-    let kind = form_of(input);
-    if is_bad(kind) {
+    let Some(kind) = form_of(input) else {
         return early(seat, core, BAD_RECORD);
-    }
+    };
     match total_of(seat, stakes, votes, timeouts) {
-        Setup::Bad => {
+        None => {
             if is_start(kind) {
                 return start(stakes, votes, timeouts, out, input, seat, core, slots);
             }
             early(seat, core, NOT_STARTED)
         }
-        Setup::Total(total) => {
+        Some(total) => {
             if is_start(kind) {
                 return early(seat, core, STARTED_AGAIN);
             }
@@ -441,17 +402,11 @@ pub fn begin(
 fn no_slot() -> Slot
     ensures { result ≡ no_slot }
 {
-    let zero = Hash {
-        a: 0,
-        b: 0,
-        c: 0,
-        d: 0,
-    };
     Slot {
         used: false,
-        digest: zero,
+        digest: Hash::ZERO,
         round: Round(0),
-        parent: zero,
+        parent: Hash::ZERO,
         parent_round: Round(0),
     }
 }

@@ -1,11 +1,10 @@
 // 01, Members: whether what was handed in counts as started; and the room that an event needs.
 ghost use Rattle.std.specs.Prelude.{◌≡◌, length};
-ghost use Rattle.certificates.specs.declared.config.Setup.TheVariants.{Total};
 ghost use Rattle.aggregator.specs.Tallies.{votes_length, timeouts_length};
 ghost use Rattle.replica.specs.Started.{sized, shaped, light_in, started_of, roomy};
 
 use aggregator::tallies::{TIMEOUT_TALLIES, TIMEOUT_WIDTH, VOTE_TALLIES, VOTE_WIDTH, are_light};
-use certificates::config::{MEMBERS_MAX, Setup, total_stake};
+use certificates::config::{MEMBERS_MAX, total_stake};
 use certificates::numbers::{Place, Stake};
 use outputs::records::COMMIT_SIZE;
 
@@ -22,64 +21,54 @@ pub struct Seat {
 }
 
 // Memory of the sizes that a replica has.
+#[tactic(auto, unfolding(crate::specs::Started::sized))]
 pub(crate) fn is_sized(stakes: usize, votes: usize, timeouts: usize) -> bool
     ensures { result ≡ sized stakes votes timeouts }
 {
-    if stakes == MEMBERS_MAX {
-        if votes == VOTE_TALLIES * VOTE_WIDTH {
-            return timeouts == TIMEOUT_TALLIES * TIMEOUT_WIDTH;
-        }
-    }
-    false
+    stakes == MEMBERS_MAX
+        && votes == VOTE_TALLIES * VOTE_WIDTH
+        && timeouts == TIMEOUT_TALLIES * TIMEOUT_WIDTH
 }
 
 // That, and the count and the own place within the limits.
+#[tactic(auto, unfolding(crate::specs::Started::shaped))]
 fn is_shaped(seat: Seat, stakes: usize, votes: usize, timeouts: usize) -> bool
     ensures { result ≡ shaped seat stakes votes timeouts }
 {
-    if (seat.count as usize) <= MEMBERS_MAX {
-        if seat.own.0 < seat.count {
-            return is_sized(stakes, votes, timeouts);
-        }
-    }
-    false
+    (seat.count as usize) <= MEMBERS_MAX
+        && seat.own.0 < seat.count
+        && is_sized(stakes, votes, timeouts)
 }
 
-fn light_in(votes: &[u64], timeouts: &[u64], total: Stake) -> Setup
+fn light_in(votes: &[u64], timeouts: &[u64], total: Stake) -> Option<Stake>
     requires { (length votes.now ≡ votes_length) × (length timeouts.now ≡ timeouts_length) }
-    ensures { result ≡ light_in votes.now timeouts.now (Total total) }
+    ensures { result ≡ light_in votes.now timeouts.now (Some total) }
 {
     if are_light(votes, timeouts, total) {
-        Setup::Total(total)
+        Some(total)
     } else {
-        Setup::Bad
+        None
     }
 }
 
 // The total stake, where the record counts as started. It is asked on every event.
-pub fn total_of(seat: Seat, stakes: &[u32], votes: &[u64], timeouts: &[u64]) -> Setup
+#[tactic(auto, unfolding(crate::specs::Started::started_of))]
+pub fn total_of(seat: Seat, stakes: &[u32], votes: &[u64], timeouts: &[u64]) -> Option<Stake>
     ensures { result ≡ started_of seat stakes.now votes.now timeouts.now }
 {
     if is_shaped(seat, stakes.len(), votes.len(), timeouts.len()) {
         let n = seat.count as usize;
-        match total_stake(&stakes[0..n]) {
-            Setup::Bad => Setup::Bad,
-            Setup::Total(total) => light_in(votes, timeouts, total),
-        }
+        let total = total_stake(&stakes[0..n])?;
+        light_in(votes, timeouts, total)
     } else {
-        Setup::Bad
+        None
     }
 }
 
 // A table of 1 to 1,024 slots, and room for the output.
+#[tactic(auto, unfolding(crate::specs::Started::roomy))]
 pub fn is_roomy(slots: usize, room: usize) -> bool
     ensures { result ≡ roomy slots room }
 {
-    if slots == 0 {
-        return false;
-    }
-    if SLOTS_MAX < slots {
-        return false;
-    }
-    COMMIT_SIZE * slots + ROOM <= room
+    slots != 0 && slots <= SLOTS_MAX && COMMIT_SIZE * slots + ROOM <= room
 }

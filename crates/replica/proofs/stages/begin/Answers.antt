@@ -4,13 +4,13 @@ use Rattle.replica.proofs.StageCode.{begin-bad, begin-start, begin-not-started, 
 use borrow.Author.Rules.{rules}
 use Rattle.replica.proofs.stages.begin.Goals as goal
 
-pub returns-then-is_bad : goal.returns-then-is_bad
-returns-then-is_bad c =
+pub returns-in_default : goal.returns-in_default
+returns-in_default c =
     search (rules, begin-bad)
 
 pub returns-then-is_start : goal.returns-then-is_start
 returns-then-is_start c =
-    begin-start _ _ _ _ _ _ _ _ c.form_of-kind.ensures c.is_bad.ensures c.if-is_bad.false c.total_of.ensures c.is_start.ensures c.in-Bad.is c.if-is_start.true c.start.ensures
+    begin-start _ _ _ _ _ _ _ _ c.form_of.ensures c.in-Some.is c.total_of.ensures c.is_start.ensures c.in-None.is c.if-is_start.true c.start.ensures
 
 pub returns-then-is_start-2 : goal.returns-then-is_start-2
 returns-then-is_start-2 c =
@@ -18,7 +18,7 @@ returns-then-is_start-2 c =
 
 pub ready-requires : goal.ready-requires
 ready-requires c =
-    ready-needs _ _ _ _ c.total_of.ensures c.in-Total.is
+    ready-needs _ _ _ _ c.total_of.ensures c.in-Some-total_of.is
 
 pub returns-else-is_start : goal.returns-else-is_start
 returns-else-is_start c =
@@ -26,4 +26,4 @@ returns-else-is_start c =
 
 pub returns-else-is_start-2 : goal.returns-else-is_start-2
 returns-else-is_start-2 c =
-    begin-ready _ _ _ _ _ _ _ _ c.form_of-kind.ensures c.is_bad.ensures c.if-is_bad.false c.total_of.ensures c.is_start-in-Total.ensures c.in-Total.is c.if-is_start-2.false c.ready.ensures
+    begin-ready _ _ _ _ _ _ _ _ c.form_of.ensures c.in-Some.is c.total_of.ensures c.is_start-in-Some-total_of.ensures c.in-Some-total_of.is c.if-is_start-2.false c.ready.ensures

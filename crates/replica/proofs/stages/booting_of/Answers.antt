@@ -4,11 +4,11 @@ use Rattle.replica.proofs.StageCode.{booting-bad, booting-good, booting-sizeless
 use borrow.Author.Rules.{rules}
 use Rattle.replica.proofs.stages.booting_of.Goals as goal
 
-pub returns-in-Bad : goal.returns-in-Bad
-returns-in-Bad c = search (rules, booting-bad)
+pub returns-in-None : goal.returns-in-None
+returns-in-None c = search (rules, booting-bad)
 
-pub returns-in-Total : goal.returns-in-Total
-returns-in-Total c = search (rules, booting-good)
+pub returns-in-Some : goal.returns-in-Some
+returns-in-Some c = search (rules, booting-good)
 
 pub returns-then-is_roomy : goal.returns-then-is_roomy
 returns-then-is_roomy c = search (rules, booting-sizeless)

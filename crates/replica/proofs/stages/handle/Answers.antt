@@ -1,6 +1,6 @@
 -- `replica::stages::handle` meets its contract: a law for each kind of record.
 -- Assumes nothing.
-use Rattle.replica.proofs.StageCode.{propose-limit, vote-needs, timeout-needs, tc-needs, handle-bad, handle-start, handle-propose, handle-vote, handle-timeout, handle-tc, handle-loopback, handle-tick}
+use Rattle.replica.proofs.StageCode.{propose-limit, vote-needs, timeout-needs, tc-needs, handle-start, handle-propose, handle-vote, handle-timeout, handle-tc, handle-loopback, handle-tick}
 use borrow.Author.Rules.{rules}
 use Rattle.replica.proofs.stages.handle.Goals as goal
 
@@ -19,9 +19,6 @@ handle_timeout-requires c =
 pub handle_tc-requires : goal.handle_tc-requires
 handle_tc-requires c =
     tc-needs _ _ c.requires.0 c.requires.1 c.requires.3 c.requires.2 c.in-Tc.is c.u64_at.ensures
-
-pub returns-in-Bad : goal.returns-in-Bad
-returns-in-Bad c = search (rules, handle-bad)
 
 pub returns-in-Start : goal.returns-in-Start
 returns-in-Start c = search (rules, handle-start)
