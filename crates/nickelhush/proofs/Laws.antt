@@ -1,15 +1,16 @@
 -- Laws of the host's memory: one for each way out of the code, and what joins a step to `hosted`. Assumes nothing.
 use Prim.Native.Nat.{ℕ, zero, suc, ◌≤◌, ◌<◌}
 use native.Mathlib.Nat.{not-suc-le-zero, le_of_suc-le-suc}
-use mathlib.Core.Bool.{Bool, true, false, not, cond, true≢false}
+use mathlib.Core.Bool.{Bool, true, false, cond, true≢false}
 use mathlib.Core.List.{List, [], ◌∷◌}
 use mathlib.Core.Path.{◌≡◌, refl, sym, ◌∙◌, ap}
 use native.Mathlib.Omega.{arith}
 use borrow.Author.Tests.{eq-eqb, ne_eqb, eqb-true, ltb-false, le-ltb, lt-ltb}
 use lib.Dec.{eqb, ltb, leb}
 use lib.ListN.{length, get_or}
+use Rattle.std.specs.Prelude.{Option, None, Some, is_some}
 use Rattle.certificates.specs.Error.{bad_record}
-use Rattle.certificates.specs.declared.config.Setup.{Setup}
+use Rattle.certificates.specs.declared.numbers.Stake.{Stake}
 use Rattle.trace.specs.declared.events.Kind.{Kind}
 use Rattle.trace.specs.declared.record.Front.{Front}
 use Rattle.trace.specs.Form.{form_of}
@@ -20,7 +21,6 @@ use Rattle.moves.specs.declared.state.Core.{Core}
 use Rattle.replica.specs.declared.started.Seat.{Seat}
 use Rattle.replica.specs.declared.stages.Stepped.{Stepped}
 use Rattle.replica.specs.Started.{slots_max, room_for, roomy}
-use Rattle.replica.specs.Stages.{is_bad}
 use Rattle.replica.specs.Step.{World, Left, world, stepped, laid, left_by, started, on_start, on_other, on_kind}
 use Rattle.replica.proofs.Theorems.{bad-record, refused-left}
 use Rattle.nickelhush.specs.Memory.{seat_length, core_length, fit, ready, seat_of, core_of, seat_numbers, core_numbers, lent, world_of, packed, written_most, handed, handed_by, unfit_answer, hosted, taken_of, sizes, size_of, room_of}
@@ -39,39 +39,17 @@ fit_has : (seat core : ℕ) → fit seat core ≡ true → Fit seat core
 unfolding fit
 fit_has seat core e = let a = both (eqb seat seat_length) _ e in record { seat-long = eqb-true _ _ a.0; core-long = eqb-true _ _ a.1 }
 
-pub fit_all : (seat core : ℕ) → seat ≡ seat_length → eqb core core_length ≡ fit seat core
-unfolding fit
-fit_all seat core a = rw (eq-eqb _ _ a)
-
-pub fit_none : (seat core : ℕ) → (seat ≡ seat_length → ⊥) → false ≡ fit seat core
-unfolding fit
-fit_none seat core a = rw (ne_eqb _ _ a)
-
 -- ---- ready for a step
 
-module _ (seat core : ℕ) {f : Bool} (fits : f ≡ fit seat core) where
-  pub ready-unfit : (k : Kind) → f ≡ false → false ≡ ready seat core k
-  unfolding ready
-  ready-unfit k e = rw (← fits, e)
-
-  module _ {k j : Kind} (form : k ≡ j) {b : Bool} (is : b ≡ is_bad k) (e : f ≡ true) where
-    pub ready-bad : b ≡ true → false ≡ ready seat core j
-    unfolding ready
-    ready-bad h = rw (← fits, e, ← form, ← is, h)
-
-    pub ready-formed : b ≡ false → true ≡ ready seat core j
-    unfolding ready
-    ready-formed h = rw (← fits, e, ← form, ← is, h)
-
-ready-fits : (seat core : ℕ) (k : Kind) → ready seat core k ≡ true → fit seat core ≡ true
+ready-fits : (seat core : ℕ) (k : Option Kind) → ready seat core k ≡ true → fit seat core ≡ true
 unfolding ready
 ready-fits seat core k e = (both (fit seat core) _ e).0
 
-pub ready-has : (seat core : ℕ) (k : Kind) → ready seat core k ≡ true → Fit seat core
+pub ready-has : (seat core : ℕ) (k : Option Kind) → ready seat core k ≡ true → Fit seat core
 ready-has seat core k e = fit_has seat core (ready-fits seat core k e)
 
 -- an event's answer where it is not
-pub refused_as_lem : (xs : List ℕ) {k : Kind} {a x : ℕ} → k ≡ form_of xs → a ≡ unfit_answer k → x ≡ packed a 0 → x ≡ packed (unfit_answer (form_of xs)) 0
+pub refused_as_lem : (xs : List ℕ) {k : Option Kind} {a x : ℕ} → k ≡ form_of xs → a ≡ unfit_answer k → x ≡ packed a 0 → x ≡ packed (unfit_answer (form_of xs)) 0
 refused_as_lem xs k a x = rw (← k, ← a) x
 
 -- ---- how much an event writes
@@ -81,23 +59,23 @@ roomless-outs : (w : World) (room : ℕ) (r : List ℕ) → roomy (length w.tabl
 unfolding stepped
 roomless-outs w room r h = by_kind (form_of r)
   where
-    of-start : (t : Setup) → (on_start w room r t).outs ≡ []
-    of-start (Setup.Total t) = refl
-    of-start Setup.Bad = rw h
+    of-start : (t : Option Stake) → (on_start w room r t).outs ≡ []
+    of-start (Some t) = refl
+    of-start None = rw h
 
-    of_other : (k : Kind) (t : Setup) → (on_other w room r k t).outs ≡ []
-    of_other k (Setup.Total t) = rw h
-    of_other k Setup.Bad = refl
+    of_other : (k : Kind) (t : Option Stake) → (on_other w room r k t).outs ≡ []
+    of_other k (Some t) = rw h
+    of_other k None = refl
 
-    by_kind : (k : Kind) → (on_kind w room r k).outs ≡ []
-    by_kind Kind.Bad = refl
-    by_kind Kind.Start = of-start (started w)
-    by_kind Kind.Propose = of_other Kind.Propose (started w)
-    by_kind Kind.Vote = of_other Kind.Vote (started w)
-    by_kind Kind.Timeout = of_other Kind.Timeout (started w)
-    by_kind Kind.Tc = of_other Kind.Tc (started w)
-    by_kind Kind.Loopback = of_other Kind.Loopback (started w)
-    by_kind Kind.Tick = of_other Kind.Tick (started w)
+    by_kind : (k : Option Kind) → (on_kind w room r k).outs ≡ []
+    by_kind None = refl
+    by_kind (Some Kind.Start) = of-start (started w)
+    by_kind (Some Kind.Propose) = of_other Kind.Propose (started w)
+    by_kind (Some Kind.Vote) = of_other Kind.Vote (started w)
+    by_kind (Some Kind.Timeout) = of_other Kind.Timeout (started w)
+    by_kind (Some Kind.Tc) = of_other Kind.Tc (started w)
+    by_kind (Some Kind.Loopback) = of_other Kind.Loopback (started w)
+    by_kind (Some Kind.Tick) = of_other Kind.Tick (started w)
 
 roomless-written : (w : World) (room : ℕ) (r out : List ℕ) → roomy (length w.table) room ≡ false → (laid (stepped w room r) out).written ≡ 0
 unfolding laid enc_all
@@ -141,15 +119,9 @@ core-again (a ∷ b ∷ c ∷ d ∷ f ∷ g ∷ h ∷ i ∷ []) e = absurd (omeg
 core-again (a ∷ b ∷ c ∷ d ∷ f ∷ g ∷ h ∷ i ∷ j ∷ []) e = refl
 core-again (a ∷ b ∷ c ∷ d ∷ f ∷ g ∷ h ∷ i ∷ j ∷ k ∷ cs) e = absurd (omega (arith, e))
 
-bad-is : (k : Kind) → not (is_bad k) ≡ false → k ≡ Kind.Bad
-bad-is Kind.Bad e = refl
-bad-is Kind.Start e = absurd (true≢false e)
-bad-is Kind.Propose e = absurd (true≢false e)
-bad-is Kind.Vote e = absurd (true≢false e)
-bad-is Kind.Timeout e = absurd (true≢false e)
-bad-is Kind.Tc e = absurd (true≢false e)
-bad-is Kind.Loopback e = absurd (true≢false e)
-bad-is Kind.Tick e = absurd (true≢false e)
+none-is : (k : Option Kind) → is_some k ≡ false → k ≡ None
+none-is None e = refl
+none-is (Some k) e = absurd (true≢false e)
 
 -- ---- a step is `hosted`
 
@@ -169,7 +141,7 @@ module _ (ss cs ks vs ts : List ℕ) (ys : List Slot) (zs xs : List ℕ) where
     host-left f k = rw (ready-fits (length ss) (length cs) (form_of xs) f, k.0, k.1, k.2) (ap handed_by as_lent)
 
   -- a record that has no form leaves the replica as it is, and that is what it is written back as
-  host-bad : fit (length ss) (length cs) ≡ true → form_of xs ≡ Kind.Bad
+  host-bad : fit (length ss) (length cs) ≡ true → form_of xs ≡ None
       → handed (packed (unfit_answer (form_of xs)) 0) (lent ss cs ks vs ts ys zs) ≡ hosted (lent ss cs ks vs ts ys zs) xs
   unfolding hosted handed_by
   host-bad f b =
@@ -183,7 +155,7 @@ module _ (ss cs ks vs ts : List ℕ) (ys : List Slot) (zs xs : List ℕ) where
   host-refused {x} h e = by (fit (length ss) (length cs)) refl
     where
       by : (f : Bool) → fit (length ss) (length cs) ≡ f → handed x (lent ss cs ks vs ts ys zs) ≡ hosted (lent ss cs ks vs ts ys zs) xs
-      by true f = rw e (host-bad f (bad-is (form_of xs) (rw f at h)))
+      by true f = rw e (host-bad f (none-is (form_of xs) (rw f at h)))
       by false f = rw (f, e)
 
 -- ---- the other exports

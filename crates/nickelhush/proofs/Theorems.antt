@@ -11,7 +11,7 @@ use mathlib.Core.List.{List}
 use mathlib.Core.Path.{◌≡◌, refl, sym, ◌∙◌}
 use native.Mathlib.Omega.{arith}
 use lib.ListN.{length, drop, replicate}
-use Rattle.certificates.specs.declared.config.Setup.{Setup}
+use Rattle.std.specs.Prelude.{Option, None, Some}
 use Rattle.trace.specs.declared.events.Kind.{Kind}
 use Rattle.trace.specs.Form.{form_of}
 use Rattle.synchronizer.specs.declared.table.Slot.{Slot}
@@ -47,31 +47,31 @@ module _ (m : Lent) (r : List ℕ) where
   unfit-unchanged f = rw f
 
 -- stakes, votes or timeouts of another length get the same answers
-pub unfit-as-unsized : (w : World) (room : ℕ) (r : List ℕ) → started w ≡ Setup.Bad → sized_in w ≡ false → (stepped w room r).answer ≡ unfit_answer (form_of r)
+pub unfit-as-unsized : (w : World) (room : ℕ) (r : List ℕ) → started w ≡ None → sized_in w ≡ false → (stepped w room r).answer ≡ unfit_answer (form_of r)
 unfolding stepped
 unfit-as-unsized w room r s z = by_kind (form_of r)
   where
-    of_room : (t : Bool) → roomy (length w.table) room ≡ t → (on_start w room r (started w)).answer ≡ unfit_answer Kind.Start
+    of_room : (t : Bool) → roomy (length w.table) room ≡ t → (on_start w room r (started w)).answer ≡ unfit_answer (Some Kind.Start)
     of_room true h = rw (s, h, z)
     of_room false h = rw (s, h)
 
-    of-start : (on_start w room r (started w)).answer ≡ unfit_answer Kind.Start
+    of-start : (on_start w room r (started w)).answer ≡ unfit_answer (Some Kind.Start)
     of-start = of_room (roomy (length w.table) room) refl
 
     of_other : (k : Kind) → (on_other w room r k (started w)).answer ≡ 33
     of_other k = rw s
 
-    by_kind : (k : Kind) → (on_kind w room r k).answer ≡ unfit_answer k
-    by_kind Kind.Bad = refl
-    by_kind Kind.Start = of-start
-    by_kind Kind.Propose = of_other Kind.Propose
-    by_kind Kind.Vote = of_other Kind.Vote
-    by_kind Kind.Timeout = of_other Kind.Timeout
-    by_kind Kind.Tc = of_other Kind.Tc
-    by_kind Kind.Loopback = of_other Kind.Loopback
-    by_kind Kind.Tick = of_other Kind.Tick
+    by_kind : (k : Option Kind) → (on_kind w room r k).answer ≡ unfit_answer k
+    by_kind None = refl
+    by_kind (Some Kind.Start) = of-start
+    by_kind (Some Kind.Propose) = of_other Kind.Propose
+    by_kind (Some Kind.Vote) = of_other Kind.Vote
+    by_kind (Some Kind.Timeout) = of_other Kind.Timeout
+    by_kind (Some Kind.Tc) = of_other Kind.Tc
+    by_kind (Some Kind.Loopback) = of_other Kind.Loopback
+    by_kind (Some Kind.Tick) = of_other Kind.Tick
 
 -- what `nickelhush_new` leaves counts as not started, whatever the table
-pub new-not-started : (core stakes votes timeouts : List ℕ) (table : List Slot) (out : List ℕ) → started (world_of (lent (replicate 2 0) core stakes votes timeouts table out)) ≡ Setup.Bad
+pub new-not-started : (core stakes votes timeouts : List ℕ) (table : List Slot) (out : List ℕ) → started (world_of (lent (replicate 2 0) core stakes votes timeouts table out)) ≡ None
 unfolding started_of shaped
 new-not-started core stakes votes timeouts table out = refl

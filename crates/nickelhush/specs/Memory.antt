@@ -8,7 +8,7 @@
 --     hosted m r                      one event over what is lent: the result, and what is lent as it is left
 --     taken_of                        the bytes of the record at the front of a trace
 --     sizes, size_of, room_of         how much to lend
-use Rattle.std.specs.Prelude.{ℕ, ◌+◌, ◌*◌, Bool, false, not, cond, List, [], ◌∷◌, eqb, ltb, length, get_or}
+use Rattle.std.specs.Prelude.{ℕ, ◌+◌, ◌*◌, Bool, false, cond, Option, None, Some, is_some, List, [], ◌∷◌, eqb, ltb, length, get_or}
 use Rattle.certificates.specs.Config.{members_max}
 use Rattle.certificates.specs.Error.{bad_record, no_room, not_started}
 use Rattle.trace.specs.declared.events.Kind.{Kind}
@@ -20,7 +20,6 @@ use Rattle.synchronizer.specs.declared.table.Slot.{Slot}
 use Rattle.moves.specs.declared.state.Core.{Core}
 use Rattle.replica.specs.declared.started.Seat.{Seat}
 use Rattle.replica.specs.Started.{slots_max, room_for}
-use Rattle.replica.specs.Stages.{is_bad}
 use Rattle.replica.specs.Step.{World, Left, world, stepped, laid}
 
 -- ---- the seat and the core
@@ -34,8 +33,8 @@ core_length = 9
 unfoldable pub fit : ℕ → ℕ → Bool
 fit seat core = cond (eqb seat seat_length) (eqb core core_length) false
 
-unfoldable pub ready : ℕ → ℕ → Kind → Bool
-ready seat core kind = cond (fit seat core) (not (is_bad kind)) false
+unfoldable pub ready : ℕ → ℕ → Option Kind → Bool
+ready seat core kind = cond (fit seat core) (is_some kind) false
 
 -- the member count, the own place
 abbrev pub seat_of : List ℕ → Seat
@@ -114,15 +113,15 @@ handed_by l =
     (lent (seat_numbers l.world.seat) (core_numbers l.world.state.core) l.world.stakes l.world.state.votes l.world.state.timeouts l.world.table l.out)
 
 -- a seat or a core of another length: "counts as not started" (33), and cannot hold a replica (18), after 16
-abbrev pub unfit_answer : Kind → ℕ
-unfit_answer Kind.Bad = bad_record
-unfit_answer Kind.Start = no_room
-unfit_answer Kind.Propose = not_started
-unfit_answer Kind.Vote = not_started
-unfit_answer Kind.Timeout = not_started
-unfit_answer Kind.Tc = not_started
-unfit_answer Kind.Loopback = not_started
-unfit_answer Kind.Tick = not_started
+abbrev pub unfit_answer : Option Kind → ℕ
+unfit_answer None = bad_record
+unfit_answer (Some Kind.Start) = no_room
+unfit_answer (Some Kind.Propose) = not_started
+unfit_answer (Some Kind.Vote) = not_started
+unfit_answer (Some Kind.Timeout) = not_started
+unfit_answer (Some Kind.Tc) = not_started
+unfit_answer (Some Kind.Loopback) = not_started
+unfit_answer (Some Kind.Tick) = not_started
 
 unfoldable pub hosted : Lent → List ℕ → Handed
 hosted m r =

@@ -4,9 +4,7 @@ ghost use Rattle.std.specs.Prelude.{◌≡◌, ◌%◌, ◌/◌, length, get_or,
 ghost use Rattle.trace.specs.Record.{split_of};
 ghost use Rattle.nickelhush.specs.Memory.{lent, handed, hosted, taken_of, size_of, room_of};
 
-use crate::memory::{
-    CORE_LENGTH, SEAT_LENGTH, core_in, is_ready, keep, refuse, seat_in,
-};
+use crate::memory::{CORE_LENGTH, SEAT_LENGTH, core_in, is_ready, keep, refuse, seat_in};
 use aggregator::tallies::{TIMEOUT_TALLIES, TIMEOUT_WIDTH, VOTE_TALLIES, VOTE_WIDTH};
 use certificates::config::MEMBERS_MAX;
 use outputs::records::COMMIT_SIZE;

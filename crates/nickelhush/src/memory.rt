@@ -8,7 +8,7 @@ use certificates::error::{BAD_RECORD, NO_ROOM, NOT_STARTED};
 use certificates::messages::QC;
 use certificates::numbers::{Hash, Place, Round, Signers};
 use moves::state::Core;
-use replica::stages::{Stepped, is_bad};
+use replica::stages::Stepped;
 use replica::started::Seat;
 use trace::events::{Kind, form_of};
 
@@ -28,10 +28,11 @@ fn is_fit(seat: &[u16], core: &[u64]) -> bool
 }
 
 // That, and the record has a form. What has none is refused before the replica is read.
+#[tactic(auto, unfolding(crate::specs::Memory::ready))]
 pub(crate) fn is_ready(seat: &[u16], core: &[u64], input: &[u8]) -> bool
     ensures { result ≡ ready (length seat.now) (length core.now) (form_of input.now) }
 {
-    is_fit(seat, core) && !is_bad(form_of(input))
+    is_fit(seat, core) && form_of(input).is_some()
 }
 
 pub(crate) fn seat_in(seat: &[u16]) -> Seat
@@ -115,18 +116,13 @@ pub(crate) fn keep(seat: &mut [u16], core: &mut [u64], s: Stepped) -> u32
 
 // The answer where the seat or the core has another length: the memory counts as not started, and no
 // replica can start in it.
-fn unfit_answer(kind: Kind) -> u16
+fn unfit_answer(kind: Option<Kind>) -> u16
     ensures { result ≡ unfit_answer kind }
 {
     match kind {
-        Kind::Bad => BAD_RECORD,
-        Kind::Start => NO_ROOM,
-        Kind::Propose => NOT_STARTED,
-        Kind::Vote => NOT_STARTED,
-        Kind::Timeout => NOT_STARTED,
-        Kind::Tc => NOT_STARTED,
-        Kind::Loopback => NOT_STARTED,
-        Kind::Tick => NOT_STARTED,
+        None => BAD_RECORD,
+        Some(Kind::Start) => NO_ROOM,
+        Some(_) => NOT_STARTED,
     }
 }
 
