@@ -12,12 +12,15 @@ use native.Mathlib.Omega.{arith}
 use borrow.Author.Tests.{eqb-true, eqb-false}
 use lib.Dec.{eqb, ltb}
 use lib.ListN.{length}
+use Rattle.std.specs.Prelude.{Some, Ok, Err}
+use Rattle.std.specs.Prelude as std
 use Rattle.certificates.specs.declared.numbers.Round.{Round}
 use Rattle.certificates.specs.declared.numbers.Stake.{Stake}
-use Rattle.certificates.specs.declared.messages.Checked.{Checked}
-use Rattle.certificates.specs.declared.messages.Checked.TheVariants.{Accepted, AuthorityReuse, UnknownAuthority, RequiresQuorum, InvalidSignature, Cut}
-use Rattle.certificates.specs.declared.messages.Authored.{Authored}
-use Rattle.certificates.specs.declared.messages.Authored.TheVariants as authored
+use Rattle.certificates.specs.declared.numbers.Signers.{Signers}
+use Rattle.certificates.specs.declared.error.CertificateError.{CertificateError}
+use Rattle.certificates.specs.declared.error.CertificateError.TheVariants.{AuthorityReuse, UnknownAuthority, RequiresQuorum, InvalidSignature, Cut}
+use Rattle.certificates.specs.declared.error.AuthorError.{AuthorError}
+use Rattle.certificates.specs.declared.error.AuthorError.TheVariants as author
 use Rattle.certificates.specs.Config.{stake_of, quorum_of}
 use Rattle.certificates.specs.Numbers.{round_max}
 use Rattle.certificates.specs.Leader.{leader_of}
@@ -78,23 +81,23 @@ module _ (P : ℕ → Type 0) where
         in-cond (has_empty_tc r k) empty_tc _ c.empty
         (in-cond (any_above signers_max (counts_of r k)) list_too_long _ c.list (in-cond (any_above round_max (rounds_of r k)) round_too_high 0 c.round c.passed))
 
-    pub number_in : (x : Checked) (q : ℕ) → P q → P (number_of x q)
-    number_in (Accepted s) q h = c.passed
-    number_in (AuthorityReuse p) q h = c.reuse
-    number_in (UnknownAuthority p) q h = c.unknown
-    number_in RequiresQuorum q h = h
-    number_in InvalidSignature q h = c.signature
-    number_in Cut q h = c.bad
+    pub number_in : (x : std.Result Signers CertificateError) (q : ℕ) → P q → P (number_of x q)
+    number_in (Ok s) q h = c.passed
+    number_in (Err (AuthorityReuse p)) q h = c.reuse
+    number_in (Err (UnknownAuthority p)) q h = c.unknown
+    number_in (Err RequiresQuorum) q h = h
+    number_in (Err InvalidSignature) q h = c.signature
+    number_in (Err Cut) q h = c.bad
 
-    pub author-in : (a : Authored) → P (author_number a)
-    author-in (authored.Valid s) = c.passed
-    author-in (authored.UnknownAuthority p) = c.unknown
-    author-in authored.InvalidSignature = c.signature
+    pub author-in : (a : std.Result Stake AuthorError) → P (author_number a)
+    author-in (Ok s) = c.passed
+    author-in (Err (author.UnknownAuthority p)) = c.unknown
+    author-in (Err author.InvalidSignature) = c.signature
 
     first-in : (a b : ℕ) → P a → P b → P (first a b)
     first-in a b h k = in-cond (eqb a 0) b a k h
 
-    pub check-in : (m : List ℕ) (b : Block) (r : List ℕ) (x : Checked) → P (proposal_check m b r x)
+    pub check-in : (m : List ℕ) (b : Block) (r : List ℕ) (x : std.Result Signers CertificateError) → P (proposal_check m b r x)
     unfolding proposal_check leader_check tc_number
     check-in m b r x =
         first-in _ _
@@ -172,7 +175,7 @@ module _ (w : World) (e : Event) (t : Stake) (s : Started w t) where
   refused-answer h = rw (proposal-refused (committee w) w.state (block_of e.bytes) e.bytes (payload_of e.bytes) h) refl
 
   -- where P holds of the numbers of checks, it holds of the answer to a PROPOSE that did not pass them
-  passed-unless : (P : ℕ → Type 0) → Checks P → P no_room → P started_again → form_of e.bytes ≡ Kind.Propose → Passed w e ⊎ P (step_on w e).answer
+  passed-unless : (P : ℕ → Type 0) → Checks P → P no_room → P started_again → form_of e.bytes ≡ Some Kind.Propose → Passed w e ⊎ P (step_on w e).answer
   passed-unless P c room twice k = cases (rw k at (step_is w e t s))
     where
       at : (x : Result) → step_on w e ≡ x → P x.answer → P (step_on w e).answer
@@ -184,12 +187,12 @@ module _ (w : World) (e : Event) (t : Stake) (s : Started w t) where
       check x y g false z =
           inr (rw (g, refused-answer (eqb-false _ 0 z)) (check-in P c (committee w) (block_of e.bytes) e.bytes (qc_found (committee w) e.bytes)))
 
-      cases : Gives w e Kind.Propose (step_on w e) → Passed w e ⊎ P (step_on w e).answer
+      cases : Gives w e (Some Kind.Propose) (step_on w e) → Passed w e ⊎ P (step_on w e).answer
       cases (formless g) = inr (at _ g c.bad)
       cases (again g) = inr (at _ g twice)
       cases (roomless g) = inr (at _ g room)
-      cases (limited g) = inr (at _ g (limit-in P c e.bytes Kind.Propose))
-      cases (gives x y g) = check x y g (eqb check_of 0) refl
+      cases (limited i h g) = inr (at _ g (limit-in P c e.bytes i))
+      cases (gives i h x y g) = let p : i ≡ Kind.Propose = cc in check x (rw p at y) (rw p at g) (eqb check_of 0) refl
 
   -- A PROPOSE that is answered 2 or 3 passed its checks.
   pub waits-passed : Waits w e → Passed w e
@@ -324,10 +327,9 @@ module _ (w : World) (e : Event) (t : Stake) (s : Started w t) (n : ℕ) (is : (
       cases x same true h = treated x.state same h
       cases x same false h = absurd (stops (payload_number (payload_of e.bytes)) h (payload-elsewhere (payload_of e.bytes)))
 
-  by-handled : (k : Kind) → form_of e.bytes ≡ k → roomy (length w.table) e.room ≡ true → limit_of e.bytes k ≡ 0 → (handled w e.bytes k).answer ≡ n
+  by-handled : (k : Kind) → form_of e.bytes ≡ Some k → roomy (length w.table) e.room ≡ true → limit_of e.bytes k ≡ 0 → (handled w e.bytes k).answer ≡ n
       → (step_on w e).answer ≡ n → StoppedIn
   unfolding member
-  by-handled Kind.Bad f x y h a = absurd (stops _ h refl)
   by-handled Kind.Start f x y h a = absurd (stops _ h refl)
   by-handled Kind.Propose f x y h a =
       ⊎_elim (λ p. by-propose p a) (λ r. absurd (stops (step_on w e).answer a r)) (passed-unless w e t s Elsewhere elsewhere refl refl f)
@@ -349,5 +351,5 @@ module _ (w : World) (e : Event) (t : Stake) (s : Started w t) (n : ℕ) (is : (
       cases (formless g) = absurd (stops bad_record (at _ g) refl)
       cases (again g) = absurd (stops started_again (at _ g) refl)
       cases (roomless g) = absurd (stops no_room (at _ g) refl)
-      cases (limited g) = absurd (stops _ (at _ g) (limit-in Elsewhere elsewhere e.bytes (form_of e.bytes)))
-      cases (gives x y g) = by-handled (form_of e.bytes) refl x y (at _ g) a
+      cases (limited i h g) = absurd (stops _ (at _ g) (limit-in Elsewhere elsewhere e.bytes i))
+      cases (gives i h x y g) = by-handled i h x y (at _ g) a

@@ -11,10 +11,10 @@ use native.Mathlib.Omega.{arith}
 use borrow.Author.Tests.{eqb-true, eqb-false}
 use lib.Dec.{eqb, ltb}
 use lib.ListN.{length}
+use Rattle.std.specs.Prelude.{Some, Ok}
 use Rattle.certificates.specs.declared.numbers.Hash.{Hash}
 use Rattle.certificates.specs.declared.numbers.Signers.{Signers}
 use Rattle.certificates.specs.declared.numbers.Stake.{Stake}
-use Rattle.certificates.specs.declared.messages.Checked.TheVariants.{Accepted}
 use Rattle.certificates.specs.Config.{quorum_from, quorum_of}
 use Rattle.certificates.specs.Messages.{embedded_check, tc_check}
 use Rattle.certificates.specs.Numbers.{round_max}
@@ -114,13 +114,12 @@ module _ (w : World) (e : Event) (t : Stake) (s : Started w t) where
   abbrev check_of : ℕ
   check_of = proposal_check (committee w) (block_of e.bytes) e.bytes (qc_found (committee w) e.bytes)
 
-  by-propose : form_of e.bytes ≡ Kind.Propose → roomy (length w.table) e.room ≡ true → limit_of e.bytes Kind.Propose ≡ 0 → step_on w e ≡ handled w e.bytes Kind.Propose
+  by-propose : form_of e.bytes ≡ Some Kind.Propose → roomy (length w.table) e.room ≡ true → limit_of e.bytes Kind.Propose ≡ 0 → step_on w e ≡ handled w e.bytes Kind.Propose
       → (c : Bool) → eqb check_of 0 ≡ c → Brings w e
   by-propose f x y g true z = proposes (record { kind = f; room = x; limits = y; checks = eqb-true _ 0 z })
   by-propose f x y g false z = idles (rw g (idle-proposed w e.bytes (eqb-false _ 0 z)))
 
-  by-handled : (k : Kind) → form_of e.bytes ≡ k → roomy (length w.table) e.room ≡ true → limit_of e.bytes k ≡ 0 → step_on w e ≡ handled w e.bytes k → Brings w e
-  by-handled Kind.Bad f x y g = idles (rw g (idle-refused _ w))
+  by-handled : (k : Kind) → form_of e.bytes ≡ Some k → roomy (length w.table) e.room ≡ true → limit_of e.bytes k ≡ 0 → step_on w e ≡ handled w e.bytes k → Brings w e
   by-handled Kind.Start f x y g = idles (rw g (idle-refused _ w))
   by-handled Kind.Propose f x y g = by-propose f x y g (eqb check_of 0) refl
   by-handled Kind.Vote f x y g = idles (rw g (idle-silent w (handled w e.bytes Kind.Vote) (plain-vote (committee w) w.seat.own.0 w.state (vote_of e.bytes)).silent refl))
@@ -139,8 +138,8 @@ module _ (w : World) (e : Event) (t : Stake) (s : Started w t) where
       cases (formless g) = idles (rw g (idle-refused _ w))
       cases (again g) = idles (rw g (idle-refused _ w))
       cases (roomless g) = idles (rw g (idle-refused _ w))
-      cases (limited g) = idles (rw g (idle-refused _ w))
-      cases (gives x y g) = by-handled (form_of e.bytes) refl x y g
+      cases (limited i h g) = idles (rw g (idle-refused _ w))
+      cases (gives i h x y g) = by-handled i h x y g
 
 -- ---- a PROPOSE that passes its checks
 
@@ -184,14 +183,14 @@ module _ (w : World) (e : Event) (t : Stake) (s : Started w t) (p : Passed w e) 
           (treats-processed t.0 m w.seat.own.0 low b w.table 0 a.state (omega arith) (k.votes ∙ ready.sound.long) (k.timeouts ∙ ready.sound.wide)).stays.high
       cases false = certificates-high
 
-  pub passed-qc : (q : Signers) × (embedded_check m (quorum_of m) (qc_part r block_qc) ≡ Accepted q)
+  pub passed-qc : (q : Signers) × (embedded_check m (quorum_of m) (qc_part r block_qc) ≡ Ok q)
   passed-qc = number-accepted (qc_found m r) qc_requires_quorum (λ z. omega arith) (checks-passed m b r (qc_found m r) p.checks).qc
 
-  pub passed-tc : (b.tc ≡ 0 → ⊥) → (q : Signers) × (tc_check m (quorum_of m) (tc_part r b.tc) ≡ Accepted q)
+  pub passed-tc : (b.tc ≡ 0 → ⊥) → (q : Signers) × (tc_check m (quorum_of m) (tc_part r b.tc) ≡ Ok q)
   unfolding tc_number
   passed-tc h = cases (eqb b.tc 0) refl (checks-passed m b r (qc_found m r) p.checks).tc
     where
       cases : (u : Bool) → eqb b.tc 0 ≡ u → cond u 0 (number_of (tc_check m (quorum_of m) (tc_part r b.tc)) tc_requires_quorum) ≡ 0
-          → (q : Signers) × (tc_check m (quorum_of m) (tc_part r b.tc) ≡ Accepted q)
+          → (q : Signers) × (tc_check m (quorum_of m) (tc_part r b.tc) ≡ Ok q)
       cases true u f = absurd (h (eqb-true _ 0 u))
       cases false u f = number-accepted (tc_check m (quorum_of m) (tc_part r b.tc)) tc_requires_quorum (λ z. omega arith) f

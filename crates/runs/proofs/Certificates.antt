@@ -18,9 +18,9 @@ use lib.Dec.{eqb, ltb, lit<}
 use lib.ListN.{length, get_or, length-append}
 use lib.Pow.{pow-lt}
 use lib.Seq.{take-length}
+use Rattle.std.specs.Prelude.{Ok}
 use Rattle.certificates.specs.declared.numbers.Signers.{Signers}
 use Rattle.certificates.specs.declared.messages.QC.{QC}
-use Rattle.certificates.specs.declared.messages.Checked.TheVariants.{Accepted}
 use Rattle.certificates.specs.Config.{members_max, quorum_of}
 use Rattle.certificates.specs.Num.{le, num_at, hash_at, nums_at}
 use Rattle.certificates.specs.Signers.{bit_of, is_in, words, no_signers, with_signer, signers_from, signers_of, member}
@@ -205,7 +205,7 @@ signers-word s (p ∷ ps) h a =
     signers-word (with_signer s p) ps (or_lt members_max s.0 (2 ^ p) h (pow-lt (a 0 (omega arith)))) (λ j l. a (suc j) (omega arith))
 
 same-signers : (f : Form) (m part : List ℕ) (s : Signers) → Quorate m s → places_in f part ≡ places_of s.0
-    → check_part f m (quorum_of m) part ≡ Accepted (signers_of (places_in f part)) → check_part f m (quorum_of m) part ≡ Accepted s
+    → check_part f m (quorum_of m) part ≡ Ok (signers_of (places_in f part)) → check_part f m (quorum_of m) part ≡ Ok s
 unfolding signers_of
 same-signers f m part s k e h =
     let t = signers_of (places_in f part) in
@@ -213,7 +213,7 @@ same-signers f m part s k e h =
     let word : t.0 < 2 ^ members_max = signers-word no_signers (places_in f part) (lit< tt) (λ j l. ((walked-distinct m (places_in f part) c.walked).known j l).small) in
     let bits : (p : ℕ) → p < members_max → bit_of t.0 p ≡ bit_of s.0 p = λ p l.
     sym (in-low t.0 [] p l) ∙ c.clean.bits p ∙ ap (λ (ps : List ℕ). cond (member p ps) 1 0) e ∙ sym (word-bits s p) ∙ in-low s.0 [] p l in
-    h ∙ ap Accepted (ap (λ (x : ℕ). record { 0 = x }) (word_same members_max t.0 s.0 word k.word bits))
+    h ∙ ap Ok (ap (λ (x : ℕ). record { 0 = x }) (word_same members_max t.0 s.0 word k.word bits))
 
 -- ---- a certificate of a quorum is accepted, whatever stands before its result
 
@@ -251,7 +251,7 @@ module _ (f : Form) (m : List ℕ) (s : Signers) (k : Quorate m s) (front list :
     whole : f.at + 3 + f.stride * count_of f part ≤ length part
     whole = rw count-is (rw (is, length-append, length-append, length-append, length_digits 1 1, length_digits 2 (count s)) (omega (arith, at_front, size)))
 
-    accepted-bytes : check_part f m (quorum_of m) part ≡ Accepted s
+    accepted-bytes : check_part f m (quorum_of m) part ≡ Ok s
     accepted-bytes =
         same-signers f m part s k places-are
         (named-accepted f m (quorum_of m) part s whole (rw places-are (quorate-distinct m s k)) (λ q. rw places-are (word-bits s q)) k.quorum verdict-yes)
@@ -264,7 +264,7 @@ unfolding hash_bytes digits
 hash-length q = refl
 
 module _ (m : List ℕ) where
-  qc-part-accepted : (q : QC) → Quorate m q.signers → check_part qc_form m (quorum_of m) (qc_bytes q) ≡ Accepted q.signers
+  qc-part-accepted : (q : QC) → Quorate m q.signers → check_part qc_form m (quorum_of m) (qc_bytes q) ≡ Ok q.signers
   unfolding qc_bytes bytes_of
   qc-part-accepted q k =
       let s = q.signers in
@@ -276,7 +276,7 @@ module _ (m : List ℕ) where
       (qc-places-at ps (front ++ (digits 1 1 ++ digits 2 (count s))) (three-more front (count s) (hash-length q)) (places-small s.0)))
 
   -- a QC that a quorum of members with stake backs is accepted, with its signers
-  pub quorate-qc : (q : QC) → Quorate m q.signers → qc_check m (quorum_of m) (qc_bytes q) ≡ Accepted q.signers
+  pub quorate-qc : (q : QC) → Quorate m q.signers → qc_check m (quorum_of m) (qc_bytes q) ≡ Ok q.signers
   quorate-qc q k = rw qc-part (qc-part-accepted q k)
 
   -- and a TC

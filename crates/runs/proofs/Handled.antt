@@ -16,11 +16,11 @@ use native.Mathlib.Omega.{arith}
 use borrow.Author.Tests.{eqb-true, eqb-false, ne_eqb}
 use lib.Dec.{eqb, ltb, leb, lit<}
 use lib.ListN.{length, get_or}
+use Rattle.std.specs.Prelude.{Ok, Result}
 use Rattle.certificates.specs.declared.numbers.Hash.{Hash}
 use Rattle.certificates.specs.declared.numbers.Signers.{Signers}
 use Rattle.certificates.specs.declared.messages.QC.{QC}
-use Rattle.certificates.specs.declared.messages.Checked.{Checked}
-use Rattle.certificates.specs.declared.messages.Checked.TheVariants.{Accepted}
+use Rattle.certificates.specs.declared.error.CertificateError.{CertificateError}
 use Rattle.certificates.specs.Config.{members_max, stake_of, quorum_of}
 use Rattle.certificates.specs.Num.{num_at, hash_at}
 use Rattle.certificates.specs.Numbers.{round_max, zero_hash, same_hash}
@@ -82,7 +82,7 @@ mine-behind g own xs k = record { votes = λ to n h w. k.votes to n h (written_b
 
 -- ---- certificates that were accepted
 
-pub accepted-quorate : (f : Form) (m part : List ℕ) (s : Signers) → check_part f m (quorum_of m) part ≡ Accepted s → Quorate m s
+pub accepted-quorate : (f : Form) (m part : List ℕ) (s : Signers) → check_part f m (quorum_of m) part ≡ Ok s → Quorate m s
 unfolding signed.signers_of
 accepted-quorate f m part s e =
     let k = certified f m (quorum_of m) part s e in
@@ -114,28 +114,28 @@ past-stale true n e = absurd (omega arith)
 past-stale false n e = e
 
 module _ (m : List ℕ) (g : Signatures) where
-  embedded-backed : (part : List ℕ) (s : Signers) → SureQC g part → embedded_check m (quorum_of m) part ≡ Accepted s → is_genesis (hash_at part 0) (num_at 8 part 32) ≡ false
+  embedded-backed : (part : List ℕ) (s : Signers) → SureQC g part → embedded_check m (quorum_of m) part ≡ Ok s → is_genesis (hash_at part 0) (num_at 8 part 32) ≡ false
       → Backed m g (qc_of (hash_at part 0) (num_at 8 part 32) s)
   embedded-backed part s sure e f =
       let other = other-bytes part f in
-      let a : check_part qc_form m (quorum_of m) part ≡ Accepted s = sym (embedded-part m (quorum_of m) part other) ∙ e in
+      let a : check_part qc_form m (quorum_of m) part ≡ Ok s = sym (embedded-part m (quorum_of m) part other) ∙ e in
       let k = certified qc_form m (quorum_of m) part s a in
       backed (accepted-quorate qc_form m part s a) (λ p b. sure other k.verdict p (certified-named k p b))
 
-  pub embedded-backs : (part : List ℕ) (s : Signers) → SureQC g part → embedded_check m (quorum_of m) part ≡ Accepted s → is_genesis (hash_at part 0) (num_at 8 part 32) ≡ false
+  pub embedded-backs : (part : List ℕ) (s : Signers) → SureQC g part → embedded_check m (quorum_of m) part ≡ Ok s → is_genesis (hash_at part 0) (num_at 8 part 32) ≡ false
       → Backs m g (hash_at part 0) (num_at 8 part 32)
   embedded-backs part s sure e f = backed-backs m g (qc_of (hash_at part 0) (num_at 8 part 32) s) (embedded-backed part s sure e f) f
 
-  embedded-may : (part : List ℕ) {h : Hash} {n : ℕ} (c : Checked) → hash_at part 0 ≡ h → num_at 8 part 32 ≡ n → SureQC g part → c ≡ embedded_check m (quorum_of m) part
+  embedded-may : (part : List ℕ) {h : Hash} {n : ℕ} (c : Result Signers CertificateError) → hash_at part 0 ≡ h → num_at 8 part 32 ≡ n → SureQC g part → c ≡ embedded_check m (quorum_of m) part
       → number_of c qc_requires_quorum ≡ 0 → MayTake m g (qc_of h n (signers_of c))
   embedded-may part c e f sure same passed =
       let a = number-accepted c qc_requires_quorum (λ z. omega arith) passed in
       rw (a.1, ← e, ← f) (λ l. embedded-backed part a.0 sure (sym same ∙ a.1) (other-round (hash_at part 0) (num_at 8 part 32) l))
 
   -- a TC that was accepted closes its round
-  pub tc-closes : (part : List ℕ) (s : Signers) → SureTC g part → tc_check m (quorum_of m) part ≡ Accepted s → Closes m g (num_at 8 part 0) s (highs_of part)
+  pub tc-closes : (part : List ℕ) (s : Signers) → SureTC g part → tc_check m (quorum_of m) part ≡ Ok s → Closes m g (num_at 8 part 0) s (highs_of part)
   tc-closes part s sure e =
-      let a : check_part tc_form m (quorum_of m) part ≡ Accepted s = sym (tc-part m (quorum_of m) part) ∙ e in
+      let a : check_part tc_form m (quorum_of m) part ≡ Ok s = sym (tc-part m (quorum_of m) part) ∙ e in
       let k = certified tc_form m (quorum_of m) part s a in
       record { quorum = accepted-quorate tc_form m part s a; signed = λ p b. sure k.verdict p (certified-named k p b) }
 

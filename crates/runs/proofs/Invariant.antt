@@ -16,12 +16,10 @@ use mathlib.Core.List.{List, [], ◌∷◌}
 use mathlib.Core.Path.{◌≡◌, refl, sym, ◌∙◌}
 use native.Mathlib.Omega.{arith}
 use lib.ListN.{length, drop}
+use Rattle.std.specs.Prelude.{Option, Some, Ok}
 use Rattle.certificates.specs.declared.numbers.Hash.{Hash}
 use Rattle.certificates.specs.declared.numbers.Signers.{Signers}
 use Rattle.certificates.specs.declared.numbers.Stake.{Stake}
-use Rattle.certificates.specs.declared.config.Setup.{Setup}
-use Rattle.certificates.specs.declared.config.Setup.TheVariants.{Total}
-use Rattle.certificates.specs.declared.messages.Checked.TheVariants.{Accepted}
 use Rattle.certificates.specs.Config.{members_max, stake_of, sum, quorum_of, setup_of}
 use Rattle.certificates.specs.Messages.{qc_check}
 use Rattle.certificates.specs.Signers.{is_in, words}
@@ -58,7 +56,7 @@ pub record Invariant (seat : Seat) (stakes : List ℕ) (w : World) : Type 0 wher
   pub staked : w.stakes ≡ stakes
   pub shape : shaped seat (length stakes) votes_length timeouts_length ≡ true
   pub total : Stake
-  pub setup : setup_of (members_of seat stakes) ≡ Total total
+  pub setup : setup_of (members_of seat stakes) ≡ Some total
   -- tallies, high QC and rounds
   pub state : Kept (members_of seat stakes) unknown w.state
 
@@ -68,15 +66,15 @@ pub record Well (seat : Seat) (stakes : List ℕ) (x : Result) : Type 0 where
 
 -- ---- such a world counts as started
 
-light-total : (votes timeouts : List ℕ) (t : Stake) (s : Setup) → s ≡ Total t → heavy vote_width vote_tallies votes t.0 ≡ false → heavy timeout_width timeout_tallies timeouts t.0 ≡ false
-    → light_in votes timeouts s ≡ Total t
+light-total : (votes timeouts : List ℕ) (t : Stake) (s : Option Stake) → s ≡ Some t → heavy vote_width vote_tallies votes t.0 ≡ false → heavy timeout_width timeout_tallies timeouts t.0 ≡ false
+    → light_in votes timeouts s ≡ Some t
 light-total votes timeouts t s e a b = rw (e, a, b)
 
 not-heavy : (m : List ℕ) (by : List ℕ → ℕ → Type 0) (w n : ℕ) (v : List ℕ) (t : Stake) → sum m ≡ t.0 → Each (Tallied m by) w n v → heavy w n v t.0 ≡ false
 not-heavy m by w n v t e all = rw e at (light-heavy w n v (sum m) (tallied-light m by w n v all))
 
 -- A world with the invariant counts as started.
-pub invariant-started : {seat : Seat} {stakes : List ℕ} {w : World} (i : Invariant seat stakes w) → started w ≡ Total i.total
+pub invariant-started : {seat : Seat} {stakes : List ℕ} {w : World} (i : Invariant seat stakes w) → started w ≡ Some i.total
 unfolding started_of
 invariant-started {seat} {stakes} {w} i =
     let m = members_of seat stakes in
@@ -88,13 +86,13 @@ invariant-started {seat} {stakes} {w} i =
 
 -- ---- START
 
-new-shape : (r : List ℕ) (t : Stake) → setup_at (drop 2 r) ≡ Total t → shaped (new_seat r) (length (new_stakes r)) votes_length timeouts_length ≡ true
+new-shape : (r : List ℕ) (t : Stake) → setup_at (drop 2 r) ≡ Some t → shaped (new_seat r) (length (new_stakes r)) votes_length timeouts_length ≡ true
 unfolding new_stakes
 new-shape r t e =
     let s = start.started (drop 2 r) t e in
     rw (start.length-loaded members_max (drop 2 r)) (sym (shaped-all members_max votes_length timeouts_length (new_seat r) s.few s.own (sized-all members_max votes_length timeouts_length refl refl)))
 
-new-setup : (r : List ℕ) (t : Stake) → setup_at (drop 2 r) ≡ Total t → setup_of (members_of (new_seat r) (new_stakes r)) ≡ Total t
+new-setup : (r : List ℕ) (t : Stake) → setup_at (drop 2 r) ≡ Some t → setup_of (members_of (new_seat r) (new_stakes r)) ≡ Some t
 unfolding new_stakes
 new-setup r t e = start.loaded-setup members_max (drop 2 r) t (omega arith) e
 
@@ -189,7 +187,7 @@ module _ (r : Course) where
 module _ (m : List ℕ) {g : Signatures} {s : State} (k : Kept m g s) (p : ℕ) (who : Known m p) where
   -- A QC that a tally of votes makes, laid out as a certificate with the result yes, passes the check.
   pub made-qc-accepted : (hash : Hash) (round : ℕ) {i : ℕ} {q : Signers} → vote_added s.votes round hash p (stake_of m p) (quorum_of m) ≡ Full i q
-      → qc_check m (quorum_of m) (qc_bytes (qc_of hash round q)) ≡ Accepted q
+      → qc_check m (quorum_of m) (qc_bytes (qc_of hash round q)) ≡ Ok q
   made-qc-accepted hash round {q = q} e = quorate-qc m (qc_of hash round q) (vote-quorate m g k p who hash round e)
 
   -- A TC that a tally of timeouts makes, likewise, with the high rounds of its row.

@@ -20,6 +20,7 @@ use mathlib.Core.Path.{◌≡◌, refl, sym, ap, ◌∙◌}
 use native.Mathlib.Nat.{le_trans}
 use native.Mathlib.Omega.{arith}
 use lib.ListN.{length, length-append}
+use Rattle.std.specs.Prelude.{Some}
 use Rattle.certificates.specs.declared.numbers.Hash.{Hash}
 use Rattle.certificates.specs.declared.numbers.Stake.{Stake}
 use Rattle.certificates.specs.declared.messages.QC.{QC}
@@ -185,7 +186,7 @@ module _ (w : World) (e : Event) (t : Stake) (s : Started w t) where
     vote-in-round = omega (arith, cast.2.passed, cast.2.current, cast.1)
 
     -- H3: a VOTE that a PROPOSE brought leaves a high QC not below the block's QC.
-    pub propose-high : form_of e.bytes ≡ Kind.Propose → (block_of e.bytes).qc_round.0 ≤ high_of (step_on w e).world
+    pub propose-high : form_of e.bytes ≡ Some Kind.Propose → (block_of e.bytes).qc_round.0 ≤ high_of (step_on w e).world
     propose-high f =
         let k = cast.2 in
         let u : (block_of e.bytes).qc_round.0 ≤ k.at.high_qc.round.0 = rw f at k.took in

@@ -5,8 +5,8 @@
 --     certificate-voter  an accepted vote certificate has the vote of a member that obeys
 use Prim.Native.Nat.{ℕ, suc}
 use mathlib.Core.Path.{◌≡◌, refl, sym, ◌∙◌}
+use Rattle.std.specs.Prelude.{Ok}
 use Rattle.certificates.specs.declared.numbers.Hash.{Hash}
-use Rattle.certificates.specs.declared.messages.Checked.TheVariants.{Accepted}
 use Rattle.certificates.specs.Config.{quorum_of}
 use Rattle.certificates.specs.Messages.{qc_form, check_part}
 use Rattle.certificates.specs.Signers.{words}
@@ -33,7 +33,7 @@ module _ (M : Members) where
   -- an accepted certificate is a quorum, and those of it that obey voted so
   pub certified : {h : Hash} {n : ℕ} → Certificate M h n → Certified (party_of M) h n
   certified c =
-      let a : check_part qc_form M.stakes (quorum_of M.stakes) c.part ≡ Accepted c.signers = sym (embedded-part M.stakes (quorum_of M.stakes) c.part c.other) ∙ c.accepted in
+      let a : check_part qc_form M.stakes (quorum_of M.stakes) c.part ≡ Ok c.signers = sym (embedded-part M.stakes (quorum_of M.stakes) c.part c.other) ∙ c.accepted in
       let k = accepted.certified qc_form M.stakes (quorum_of M.stakes) c.part c.signers a in
       record {
         signers = words c.signers;

@@ -8,8 +8,8 @@ use mathlib.Core.Logic.{◌⊎◌, inl, inr}
 use mathlib.Core.Path.{◌≡◌, refl, sym, ◌∙◌, ap}
 use lib.Dec.{eqb, ltb}
 use lib.ListN.{length, drop}
-use Rattle.certificates.specs.declared.config.Setup.{Setup}
-use Rattle.certificates.specs.declared.config.Setup.TheVariants.{Bad, Total}
+use Rattle.std.specs.Prelude.{Option, None, Some}
+use Rattle.certificates.specs.declared.numbers.Stake.{Stake}
 use Rattle.certificates.specs.Config.{stake_of, quorum_of}
 use Rattle.certificates.specs.Signers.{member}
 use Rattle.certificates.specs.Messages.{embedded_check, tc_check, author_check}
@@ -174,7 +174,6 @@ going-unchanged w b false o h = fair-unchanged w o h
 
 handled-unchanged : (w : World) (r : List ℕ) (k : Kind) → Unchanged w (handled w r k)
 unfolding Unchanged going_on going_on_table
-handled-unchanged w r Kind.Bad = inl refl
 handled-unchanged w r Kind.Start = inl refl
 handled-unchanged w r Kind.Propose =
     let p = proposal_of (committee w) w.state (block_of r) r (payload_of r) in
@@ -194,9 +193,9 @@ begun-unchanged : (w : World) (r : List ℕ) → Unchanged w (begun w r)
 unfolding Unchanged begun may_keep member
 begun-unchanged w r = cases (setup_at (drop 2 r))
   where
-    cases : (st : Setup) → Unchanged w (begun_by w r st)
-    cases Bad = inl refl
-    cases (Total t) = inr refl
+    cases : (st : Option Stake) → Unchanged w (begun_by w r st)
+    cases None = inl refl
+    cases (Some t) = inr refl
 
 roomy-unchanged : (w : World) (x : Result) (u v : Bool) (m n : ℕ) → Unchanged w x → Unchanged w (cond u (cond v x (refused_in m w)) (refused_in n w))
 unfolding Unchanged
@@ -204,30 +203,30 @@ roomy-unchanged w x true true m n h = h
 roomy-unchanged w x true false m n h = inl refl
 roomy-unchanged w x false v m n h = inl refl
 
-start-unchanged : (w : World) (room : ℕ) (r : List ℕ) (st : Setup) → Unchanged w (on_start w room r st)
+start-unchanged : (w : World) (room : ℕ) (r : List ℕ) (st : Option Stake) → Unchanged w (on_start w room r st)
 unfolding Unchanged
-start-unchanged w room r (Total t) = inl refl
-start-unchanged w room r Bad = roomy-unchanged w (begun w r) (roomy (length w.table) room) (sized_in w) no_room no_room (begun-unchanged w r)
+start-unchanged w room r (Some t) = inl refl
+start-unchanged w room r None = roomy-unchanged w (begun w r) (roomy (length w.table) room) (sized_in w) no_room no_room (begun-unchanged w r)
 
-other-unchanged : (w : World) (room : ℕ) (r : List ℕ) (k : Kind) (st : Setup) → Unchanged w (on_other w room r k st)
+other-unchanged : (w : World) (room : ℕ) (r : List ℕ) (k : Kind) (st : Option Stake) → Unchanged w (on_other w room r k st)
 unfolding Unchanged
-other-unchanged w room r k Bad = inl refl
-other-unchanged w room r k (Total t) =
+other-unchanged w room r k None = inl refl
+other-unchanged w room r k (Some t) =
     roomy-unchanged w (handled w r k) (roomy (length w.table) room) (eqb (limit_of r k) 0) (limit_of r k) no_room (handled-unchanged w r k)
 
 step-unchanged : (w : World) (e : Event) → Unchanged w (step_on w e)
 unfolding Unchanged stepped
 step-unchanged w e = cases (form_of e.bytes)
   where
-    cases : (k : Kind) → Unchanged w (on_kind w e.room e.bytes k)
-    cases Kind.Bad = inl refl
-    cases Kind.Start = start-unchanged w e.room e.bytes (started w)
-    cases Kind.Propose = other-unchanged w e.room e.bytes Kind.Propose (started w)
-    cases Kind.Vote = other-unchanged w e.room e.bytes Kind.Vote (started w)
-    cases Kind.Timeout = other-unchanged w e.room e.bytes Kind.Timeout (started w)
-    cases Kind.Tc = other-unchanged w e.room e.bytes Kind.Tc (started w)
-    cases Kind.Loopback = other-unchanged w e.room e.bytes Kind.Loopback (started w)
-    cases Kind.Tick = other-unchanged w e.room e.bytes Kind.Tick (started w)
+    cases : (k : Option Kind) → Unchanged w (on_kind w e.room e.bytes k)
+    cases None = inl refl
+    cases (Some Kind.Start) = start-unchanged w e.room e.bytes (started w)
+    cases (Some Kind.Propose) = other-unchanged w e.room e.bytes Kind.Propose (started w)
+    cases (Some Kind.Vote) = other-unchanged w e.room e.bytes Kind.Vote (started w)
+    cases (Some Kind.Timeout) = other-unchanged w e.room e.bytes Kind.Timeout (started w)
+    cases (Some Kind.Tc) = other-unchanged w e.room e.bytes Kind.Tc (started w)
+    cases (Some Kind.Loopback) = other-unchanged w e.room e.bytes Kind.Loopback (started w)
+    cases (Some Kind.Tick) = other-unchanged w e.room e.bytes Kind.Tick (started w)
 
 -- An event whose number is not one of those that may keep something left the record and the table as they were, and wrote nothing.
 pub early-unchanged : (w : World) (e : Event) → may_keep (step_on w e).answer ≡ false → step_on w e ≡ refused_in (step_on w e).answer w

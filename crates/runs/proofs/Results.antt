@@ -12,6 +12,7 @@ use native.Mathlib.Omega.{arith}
 use borrow.Author.Tests.{ltb-false}
 use lib.Dec.{ltb}
 use lib.ListN.{length}
+use Rattle.std.specs.Prelude.{None, Some}
 use Rattle.certificates.specs.declared.numbers.Stake.{Stake}
 use Rattle.certificates.specs.declared.messages.QC.{QC}
 use Rattle.certificates.specs.Config.{members_max}
@@ -34,23 +35,23 @@ use Rattle.runs.proofs.Handled.{SureQC, SureTC, Mine, good-handled-vote, good-ha
 -- ---- true results
 
 pub record SureEvent (g : Signatures) (e : Event) : Type 0 where
-  pub vote : form_of e.bytes ≡ Kind.Vote → let v = vote_of e.bytes in v.verdict ≡ 1 → g.votes v.author.0 v.hash v.round.0
-  pub timeout : form_of e.bytes ≡ Kind.Timeout → let t = timeout_of e.bytes in t.verdict ≡ 1 → g.expires t.author.0 t.round.0 t.qc_round.0
-  pub timeout-qc : form_of e.bytes ≡ Kind.Timeout → SureQC g (qc_part e.bytes timeout_qc)
-  pub tc : form_of e.bytes ≡ Kind.Tc → SureTC g (tc_part e.bytes tc_body)
-  pub block-qc : form_of e.bytes ≡ Kind.Propose → SureQC g (qc_part e.bytes block_qc)
-  pub block-tc : form_of e.bytes ≡ Kind.Propose → ((block_of e.bytes).tc ≡ 0 → ⊥) → SureTC g (tc_part e.bytes (block_of e.bytes).tc)
+  pub vote : form_of e.bytes ≡ Some Kind.Vote → let v = vote_of e.bytes in v.verdict ≡ 1 → g.votes v.author.0 v.hash v.round.0
+  pub timeout : form_of e.bytes ≡ Some Kind.Timeout → let t = timeout_of e.bytes in t.verdict ≡ 1 → g.expires t.author.0 t.round.0 t.qc_round.0
+  pub timeout-qc : form_of e.bytes ≡ Some Kind.Timeout → SureQC g (qc_part e.bytes timeout_qc)
+  pub tc : form_of e.bytes ≡ Some Kind.Tc → SureTC g (tc_part e.bytes tc_body)
+  pub block-qc : form_of e.bytes ≡ Some Kind.Propose → SureQC g (qc_part e.bytes block_qc)
+  pub block-tc : form_of e.bytes ≡ Some Kind.Propose → ((block_of e.bytes).tc ≡ 0 → ⊥) → SureTC g (tc_part e.bytes (block_of e.bytes).tc)
 
 -- a record without a form brings none
-pub sure-bad : (g : Signatures) (e : Event) → form_of e.bytes ≡ Kind.Bad → SureEvent g e
+pub sure-bad : (g : Signatures) (e : Event) → form_of e.bytes ≡ None → SureEvent g e
 sure-bad g e z =
     record {
-      vote = λ f. absurd (let x : Kind.Vote ≡ Kind.Bad = sym f ∙ z in let y : ◌≡◌ {A = ℕ} 0 1 = cc in omega arith);
-      timeout = λ f. absurd (let x : Kind.Timeout ≡ Kind.Bad = sym f ∙ z in let y : ◌≡◌ {A = ℕ} 0 1 = cc in omega arith);
-      timeout-qc = λ f. absurd (let x : Kind.Timeout ≡ Kind.Bad = sym f ∙ z in let y : ◌≡◌ {A = ℕ} 0 1 = cc in omega arith);
-      tc = λ f. absurd (let x : Kind.Tc ≡ Kind.Bad = sym f ∙ z in let y : ◌≡◌ {A = ℕ} 0 1 = cc in omega arith);
-      block-qc = λ f. absurd (let x : Kind.Propose ≡ Kind.Bad = sym f ∙ z in let y : ◌≡◌ {A = ℕ} 0 1 = cc in omega arith);
-      block-tc = λ f. absurd (let x : Kind.Propose ≡ Kind.Bad = sym f ∙ z in let y : ◌≡◌ {A = ℕ} 0 1 = cc in omega arith);
+      vote = λ f. absurd (let x : Some Kind.Vote ≡ None = sym f ∙ z in let y : ◌≡◌ {A = ℕ} 0 1 = cc in omega arith);
+      timeout = λ f. absurd (let x : Some Kind.Timeout ≡ None = sym f ∙ z in let y : ◌≡◌ {A = ℕ} 0 1 = cc in omega arith);
+      timeout-qc = λ f. absurd (let x : Some Kind.Timeout ≡ None = sym f ∙ z in let y : ◌≡◌ {A = ℕ} 0 1 = cc in omega arith);
+      tc = λ f. absurd (let x : Some Kind.Tc ≡ None = sym f ∙ z in let y : ◌≡◌ {A = ℕ} 0 1 = cc in omega arith);
+      block-qc = λ f. absurd (let x : Some Kind.Propose ≡ None = sym f ∙ z in let y : ◌≡◌ {A = ℕ} 0 1 = cc in omega arith);
+      block-tc = λ f. absurd (let x : Some Kind.Propose ≡ None = sym f ∙ z in let y : ◌≡◌ {A = ℕ} 0 1 = cc in omega arith);
     }
 
 -- a mark of a record that has its form is 0 or 1
@@ -67,11 +68,11 @@ small-mark x xs e n = cases (ltb 1 x) refl e
     cases true f g = absurd (let z : ◌≡◌ {A = ℕ} 0 1 = cc in omega arith)
     cases false f g = one x (ltb-false 1 x f) n
 
-vote-yes : (r : List ℕ) → form_of r ≡ Kind.Vote → ((vote_of r).verdict ≡ 0 → ⊥) → (vote_of r).verdict ≡ 1
-vote-yes r f n = vote-verdict r ∙ small-mark _ _ (formed r Kind.Vote refl f).marks (λ z. n (vote-verdict r ∙ z))
+vote-yes : (r : List ℕ) → form_of r ≡ Some Kind.Vote → ((vote_of r).verdict ≡ 0 → ⊥) → (vote_of r).verdict ≡ 1
+vote-yes r f n = vote-verdict r ∙ small-mark _ _ (formed r Kind.Vote f).marks (λ z. n (vote-verdict r ∙ z))
 
-timeout-yes : (r : List ℕ) → form_of r ≡ Kind.Timeout → ((timeout_of r).verdict ≡ 0 → ⊥) → (timeout_of r).verdict ≡ 1
-timeout-yes r f n = timeout-verdict r ∙ small-mark _ _ (formed r Kind.Timeout refl f).marks (λ z. n (timeout-verdict r ∙ z))
+timeout-yes : (r : List ℕ) → form_of r ≡ Some Kind.Timeout → ((timeout_of r).verdict ≡ 0 → ⊥) → (timeout_of r).verdict ≡ 1
+timeout-yes r f n = timeout-verdict r ∙ small-mark _ _ (formed r Kind.Timeout f).marks (λ z. n (timeout-verdict r ∙ z))
 
 -- ---- every event
 
@@ -80,8 +81,7 @@ module _ (w : World) (e : Event) (t : Stake) (s : Started w t) where
   few = (started-ready w.seat w.stakes w.state.votes w.state.timeouts t s).sound.few
 
   module _ (g : Signatures) (k : Kept (committee w) g w.state) (sure : SureEvent g e) where
-    good-kind : (i : Kind) → form_of e.bytes ≡ i → Mine g w.seat.own.0 (handled w e.bytes i).outs → Good (committee w) g (step_in (handled w e.bytes i))
-    good-kind Kind.Bad f mine = good-quiet (committee w) g k
+    good-kind : (i : Kind) → form_of e.bytes ≡ Some i → Mine g w.seat.own.0 (handled w e.bytes i).outs → Good (committee w) g (step_in (handled w e.bytes i))
     good-kind Kind.Start f mine = good-quiet (committee w) g k
     good-kind Kind.Propose f mine = good-proposed (committee w) g few w.seat.own.0 k w.table e.bytes (payload_of e.bytes) (sure.block-qc f) mine
     good-kind Kind.Vote f mine = good-handled-vote (committee w) g few w.seat.own.0 k (vote_of e.bytes) (λ n. sure.vote f (vote-yes e.bytes f n))
@@ -98,8 +98,8 @@ module _ (w : World) (e : Event) (t : Stake) (s : Started w t) where
         cases (formless x) = rw x (good-quiet (committee w) g k)
         cases (again x) = rw x (good-quiet (committee w) g k)
         cases (roomless x) = rw x (good-quiet (committee w) g k)
-        cases (limited x) = rw x (good-quiet (committee w) g k)
-        cases (gives y z x) = rw x (good-kind (form_of e.bytes) refl (rw x at mine))
+        cases (limited i h x) = rw x (good-quiet (committee w) g k)
+        cases (gives i h y z x) = rw x (good-kind i h (rw x at mine))
 
   -- ---- whatever the results are
 

@@ -15,12 +15,11 @@ use native.Mathlib.Omega.{arith}
 use borrow.Author.Tests.{eq-eqb, eqb-true}
 use lib.Dec.{eqb}
 use lib.ListN.{length, drop, length-replicate}
+use Rattle.std.specs.Prelude.{Option, None, Some}
 use Rattle.certificates.specs.Config.{members_max, quorum_from, quorum_of, setup_of}
 use Rattle.certificates.specs.Start.{setup_at, loaded_stakes}
 use Rattle.certificates.specs.Error.{bad_record, no_room, started_again}
 use Rattle.certificates.specs.declared.numbers.Stake.{Stake}
-use Rattle.certificates.specs.declared.config.Setup.{Setup}
-use Rattle.certificates.specs.declared.config.Setup.TheVariants.{Bad, Total}
 use Rattle.certificates.proofs.StartLaws as start
 use Rattle.trace.specs.declared.events.Kind.{Kind}
 use Rattle.trace.specs.declared.events.Block.{Block}
@@ -54,28 +53,28 @@ abbrev pub step_in : Result → Step
 step_in x = record { state = x.world.state; outs = x.outs }
 
 -- the round that the high QC has reached when a block of this kind of event is voted for
-abbrev pub took_by : Kind → Block → ℕ
-took_by Kind.Bad b = 0
-took_by Kind.Start b = 0
-took_by Kind.Propose b = b.qc_round.0
-took_by Kind.Vote b = 0
-took_by Kind.Timeout b = 0
-took_by Kind.Tc b = 0
-took_by Kind.Loopback b = 0
-took_by Kind.Tick b = 0
+abbrev pub took_by : Option Kind → Block → ℕ
+took_by None b = 0
+took_by (Some Kind.Start) b = 0
+took_by (Some Kind.Propose) b = b.qc_round.0
+took_by (Some Kind.Vote) b = 0
+took_by (Some Kind.Timeout) b = 0
+took_by (Some Kind.Tc) b = 0
+took_by (Some Kind.Loopback) b = 0
+took_by (Some Kind.Tick) b = 0
 
-pub record Steps (total : ℕ) (w : World) (r : List ℕ) (k : Kind) (x : Result) : Type 0 where
+pub record Steps (total : ℕ) (w : World) (r : List ℕ) (k : Option Kind) (x : Result) : Type 0 where
   pub seat : x.world.seat ≡ w.seat
   pub stakes : x.world.stakes ≡ w.stakes
   pub slots : length x.world.table ≡ length w.table
   pub lawful : Lawful total (block_of r) (took_by k (block_of r)) w.table x.world.table w.state (step_in x)
 
 abbrev pub Started : World → Stake → Type 0
-Started w t = started w ≡ Total t
+Started w t = started w ≡ Some t
 
 -- ---- the handlers
 
-steps-refused : (total n : ℕ) (w : World) (r : List ℕ) (k : Kind) → Steps total w r k (refused_in n w)
+steps-refused : (total n : ℕ) (w : World) (r : List ℕ) (k : Option Kind) → Steps total w r k (refused_in n w)
 steps-refused total n w r k =
     record { seat = refl; stakes = refl; slots = refl; lawful = lawful-plain (block_of r) (took_by k (block_of r)) w.table (keeps-none total w.state) (plain_quiet w.state) }
 
@@ -102,9 +101,8 @@ module _ (w : World) (r : List ℕ) (t : Stake) (k : Ready w.seat w.stakes w.sta
   wide : length w.state.timeouts ≡ timeouts_length
   wide = k.sound.wide
 
-  handled-lawful : (e : Kind) → Steps t.0 w r e (handled w r e)
-  handled-lawful Kind.Bad = steps-refused t.0 bad_record w r Kind.Bad
-  handled-lawful Kind.Start = steps-refused t.0 started_again w r Kind.Start
+  handled-lawful : (e : Kind) → Steps t.0 w r (Some e) (handled w r e)
+  handled-lawful Kind.Start = steps-refused t.0 started_again w r (Some Kind.Start)
   handled-lawful Kind.Propose =
       record {
         seat = refl;
@@ -151,7 +149,7 @@ module _ (w : World) (r : List ℕ) (t : Stake) (k : Ready w.seat w.stakes w.sta
 -- ---- any event
 
 -- a refusal by the room or the limits, or the event's own part
-limited-or : (total : ℕ) (w : World) (r : List ℕ) (k : Kind) (x : Result) (u v : Bool) (m n : ℕ) → Steps total w r k x
+limited-or : (total : ℕ) (w : World) (r : List ℕ) (k : Option Kind) (x : Result) (u v : Bool) (m n : ℕ) → Steps total w r k x
     → Steps total w r k (cond u (cond v x (refused_in m w)) (refused_in n w))
 limited-or total w r k x true true m n h = h
 limited-or total w r k x true false m n h = steps-refused total m w r k
@@ -161,50 +159,50 @@ pub step-lawful : (w : World) (e : Event) (t : Stake) → Started w t → Steps 
 unfolding stepped
 step-lawful w e t s = cases (form_of e.bytes)
   where
-    other : (k : Kind) → Steps t.0 w e.bytes k (on_other w e.room e.bytes k (started w))
+    other : (k : Kind) → Steps t.0 w e.bytes (Some k) (on_other w e.room e.bytes k (started w))
     other k =
         rw s
-        (limited-or t.0 w e.bytes k (handled w e.bytes k) (roomy (length w.table) e.room) (eqb (limit_of e.bytes k) 0) (limit_of e.bytes k) no_room
+        (limited-or t.0 w e.bytes (Some k) (handled w e.bytes k) (roomy (length w.table) e.room) (eqb (limit_of e.bytes k) 0) (limit_of e.bytes k) no_room
         (handled-lawful w e.bytes t (started-ready w.seat w.stakes w.state.votes w.state.timeouts t s) k))
 
-    cases : (k : Kind) → Steps t.0 w e.bytes k (on_kind w e.room e.bytes k)
-    cases Kind.Bad = steps-refused t.0 bad_record w e.bytes Kind.Bad
-    cases Kind.Start = rw s (steps-refused t.0 started_again w e.bytes Kind.Start)
-    cases Kind.Propose = other Kind.Propose
-    cases Kind.Vote = other Kind.Vote
-    cases Kind.Timeout = other Kind.Timeout
-    cases Kind.Tc = other Kind.Tc
-    cases Kind.Loopback = other Kind.Loopback
-    cases Kind.Tick = other Kind.Tick
+    cases : (k : Option Kind) → Steps t.0 w e.bytes k (on_kind w e.room e.bytes k)
+    cases None = steps-refused t.0 bad_record w e.bytes None
+    cases (Some Kind.Start) = rw s (steps-refused t.0 started_again w e.bytes (Some Kind.Start))
+    cases (Some Kind.Propose) = other Kind.Propose
+    cases (Some Kind.Vote) = other Kind.Vote
+    cases (Some Kind.Timeout) = other Kind.Timeout
+    cases (Some Kind.Tc) = other Kind.Tc
+    cases (Some Kind.Loopback) = other Kind.Loopback
+    cases (Some Kind.Tick) = other Kind.Tick
 
 -- ---- an event is refused by 16, 34, 18 or a limit, or gives what its kind says
 
-pub data Gives (w : World) (e : Event) (k : Kind) (x : Result) : Type 0 where
+pub data Gives (w : World) (e : Event) (k : Option Kind) (x : Result) : Type 0 where
   formless : x ≡ refused_in bad_record w → Gives w e k x
   again : x ≡ refused_in started_again w → Gives w e k x
   roomless : x ≡ refused_in no_room w → Gives w e k x
-  limited : x ≡ refused_in (limit_of e.bytes k) w → Gives w e k x
-  gives : roomy (length w.table) e.room ≡ true → limit_of e.bytes k ≡ 0 → x ≡ handled w e.bytes k → Gives w e k x
+  limited : (i : Kind) → k ≡ Some i → x ≡ refused_in (limit_of e.bytes i) w → Gives w e k x
+  gives : (i : Kind) → k ≡ Some i → roomy (length w.table) e.room ≡ true → limit_of e.bytes i ≡ 0 → x ≡ handled w e.bytes i → Gives w e k x
 
 module _ (w : World) (e : Event) (t : Stake) (s : Started w t) where
   by_tests : (k : Kind) (a b : Bool) → roomy (length w.table) e.room ≡ a → eqb (limit_of e.bytes k) 0 ≡ b
-      → Gives w e k (cond a (cond b (handled w e.bytes k) (refused_in (limit_of e.bytes k) w)) (refused_in no_room w))
-  by_tests k true true f g = gives f (eqb-true _ 0 g) refl
-  by_tests k true false f g = limited refl
+      → Gives w e (Some k) (cond a (cond b (handled w e.bytes k) (refused_in (limit_of e.bytes k) w)) (refused_in no_room w))
+  by_tests k true true f g = gives k refl f (eqb-true _ 0 g) refl
+  by_tests k true false f g = limited k refl refl
   by_tests k false b f g = roomless refl
 
-  by-other : (k : Kind) → Gives w e k (on_other w e.room e.bytes k (started w))
+  by-other : (k : Kind) → Gives w e (Some k) (on_other w e.room e.bytes k (started w))
   by-other k = rw s (by_tests k (roomy (length w.table) e.room) (eqb (limit_of e.bytes k) 0) refl refl)
 
-  by_kind : (k : Kind) → Gives w e k (on_kind w e.room e.bytes k)
-  by_kind Kind.Bad = formless refl
-  by_kind Kind.Start = rw s (again refl)
-  by_kind Kind.Propose = by-other Kind.Propose
-  by_kind Kind.Vote = by-other Kind.Vote
-  by_kind Kind.Timeout = by-other Kind.Timeout
-  by_kind Kind.Tc = by-other Kind.Tc
-  by_kind Kind.Loopback = by-other Kind.Loopback
-  by_kind Kind.Tick = by-other Kind.Tick
+  by_kind : (k : Option Kind) → Gives w e k (on_kind w e.room e.bytes k)
+  by_kind None = formless refl
+  by_kind (Some Kind.Start) = rw s (again refl)
+  by_kind (Some Kind.Propose) = by-other Kind.Propose
+  by_kind (Some Kind.Vote) = by-other Kind.Vote
+  by_kind (Some Kind.Timeout) = by-other Kind.Timeout
+  by_kind (Some Kind.Tc) = by-other Kind.Tc
+  by_kind (Some Kind.Loopback) = by-other Kind.Loopback
+  by_kind (Some Kind.Tick) = by-other Kind.Tick
 
   pub step_is : Gives w e (form_of e.bytes) (step_on w e)
   unfolding stepped
@@ -212,15 +210,15 @@ module _ (w : World) (e : Event) (t : Stake) (s : Started w t) where
 
 -- ---- it counts as started
 
-total-same : {t u : Stake} → ◌≡◌ {A = Setup} (Total u) (Total t) → u ≡ t
+total-same : {t u : Stake} → ◌≡◌ {A = Option Stake} (Some u) (Some t) → u ≡ t
 total-same e = cc
 
-bad-total : {t : Stake} → ◌≡◌ {A = Setup} Bad (Total t) → ⊥
+bad-total : {t : Stake} → ◌≡◌ {A = Option Stake} None (Some t) → ⊥
 bad-total e = let z : ◌≡◌ {A = ℕ} 0 1 = cc in omega arith
 
 -- two tests that both say no, and say no again
 light-again : (u t : Stake) (a b c d : Bool) → (u ≡ t → a ≡ false → c ≡ false) → (u ≡ t → b ≡ false → d ≡ false)
-    → cond a Bad (cond b Bad (Total u)) ≡ Total t → cond c Bad (cond d Bad (Total u)) ≡ Total t
+    → cond a None (cond b None (Some u)) ≡ Some t → cond c None (cond d None (Some u)) ≡ Some t
 light-again u t true b c d f g h = absurd (bad-total h)
 light-again u t false true c d f g h = absurd (bad-total h)
 light-again u t false false c d f g h = rw (f (total-same h) refl, g (total-same h) refl) h
@@ -233,18 +231,18 @@ module _ (t : Stake) (v v' o o' : List ℕ) (f : Light vote_width vote_tallies v
   timeouts-again : (u : Stake) → u ≡ t → heavy timeout_width timeout_tallies o u.0 ≡ false → heavy timeout_width timeout_tallies o' u.0 ≡ false
   timeouts-again u e h = rw e (light-heavy timeout_width timeout_tallies o' t.0 (g (light-of timeout_width timeout_tallies o t.0 (rw e at h))))
 
-  light-in-again : (st : Setup) → light_in v o st ≡ Total t → light_in v' o' st ≡ Total t
-  light-in-again Bad h = h
-  light-in-again (Total u) h =
+  light-in-again : (st : Option Stake) → light_in v o st ≡ Some t → light_in v' o' st ≡ Some t
+  light-in-again None h = h
+  light-in-again (Some u) h =
       light-again u t (heavy vote_width vote_tallies v u.0) (heavy timeout_width timeout_tallies o u.0) (heavy vote_width vote_tallies v' u.0)
       (heavy timeout_width timeout_tallies o' u.0) (votes-again u) (timeouts-again u) h
 
-cond-again : (b : Bool) (x y : Setup) (t : Stake) → (x ≡ Total t → y ≡ Total t) → cond b x Bad ≡ Total t → cond b y Bad ≡ Total t
+cond-again : (b : Bool) (x y : Option Stake) (t : Stake) → (x ≡ Some t → y ≡ Some t) → cond b x None ≡ Some t → cond b y None ≡ Some t
 cond-again true x y t f h = f h
 cond-again false x y t f h = h
 
-pub stays-started : (seat : Seat) (stakes : List ℕ) (s s' : State) (t : Stake) → Stays t.0 s s' → started_of seat stakes s.votes s.timeouts ≡ Total t
-    → started_of seat stakes s'.votes s'.timeouts ≡ Total t
+pub stays-started : (seat : Seat) (stakes : List ℕ) (s s' : State) (t : Stake) → Stays t.0 s s' → started_of seat stakes s.votes s.timeouts ≡ Some t
+    → started_of seat stakes s'.votes s'.timeouts ≡ Some t
 unfolding started_of
 stays-started seat stakes s s' t k h =
     rw (k.votes, k.timeouts)
@@ -263,7 +261,7 @@ started-again w e t s =
 -- what a START leaves, and its total stake
 pub record Starts (w : World) (e : Event) : Type 0 where
   pub total : Stake
-  pub setup : setup_at (drop 2 e.bytes) ≡ Total total
+  pub setup : setup_at (drop 2 e.bytes) ≡ Some total
   pub is : step_on w e
       ≡ record {
         answer = 0;
@@ -271,9 +269,9 @@ pub record Starts (w : World) (e : Event) : Type 0 where
         outs = start_outs e.bytes;
       }
 
-by-setup : (w : World) (r : List ℕ) (st : Setup) → (begun_by w r st).answer ≡ 0 → (t : Stake) × (st ≡ Total t)
-by-setup w r Bad h = absurd (omega arith)
-by-setup w r (Total t) h = (t, refl)
+by-setup : (w : World) (r : List ℕ) (st : Option Stake) → (begun_by w r st).answer ≡ 0 → (t : Stake) × (st ≡ Some t)
+by-setup w r None h = absurd (omega arith)
+by-setup w r (Some t) h = (t, refl)
 
 by-room : (w : World) (x : Result) (u v : Bool) → (cond u (cond v x (refused_in no_room w)) (refused_in no_room w)).answer ≡ 0
     → cond u (cond v x (refused_in no_room w)) (refused_in no_room w) ≡ x
@@ -281,9 +279,9 @@ by-room w x true true h = refl
 by-room w x true false h = absurd (omega arith)
 by-room w x false v h = absurd (omega arith)
 
-by-started : (w : World) (room : ℕ) (r : List ℕ) (st : Setup) → (on_start w room r st).answer ≡ 0 → on_start w room r st ≡ begun w r
-by-started w room r (Total t) h = absurd (omega arith)
-by-started w room r Bad h = by-room w (begun w r) (roomy (length w.table) room) (sized_in w) h
+by-started : (w : World) (room : ℕ) (r : List ℕ) (st : Option Stake) → (on_start w room r st).answer ≡ 0 → on_start w room r st ≡ begun w r
+by-started w room r (Some t) h = absurd (omega arith)
+by-started w room r None h = by-room w (begun w r) (roomy (length w.table) room) (sized_in w) h
 
 start_is : (w : World) (e : Event) → Begun w e → step_on w e ≡ begun w e.bytes
 unfolding stepped
@@ -299,7 +297,7 @@ starts w e b =
     record { total = t.0; setup = t.1; is = s ∙ rw t.1 }
 
 -- it counts as started
-new-shaped : (r : List ℕ) (t : Stake) → setup_at (drop 2 r) ≡ Total t
+new-shaped : (r : List ℕ) (t : Stake) → setup_at (drop 2 r) ≡ Some t
     → true ≡ shaped (new_seat r) (length (new_stakes r)) (length new_state.votes) (length new_state.timeouts)
 unfolding new_stakes
 new-shaped r t e =
@@ -310,7 +308,7 @@ new-shaped r t e =
     shaped-all (length (new_stakes r)) (length new_state.votes) (length new_state.timeouts) (new_seat r) k.few k.own
     (sym (eq-eqb _ _ o) ∙ sized-all (length (new_stakes r)) (length new_state.votes) (length new_state.timeouts) l v)
 
-new-light : (t : Stake) → light_in new_state.votes new_state.timeouts (Total t) ≡ Total t
+new-light : (t : Stake) → light_in new_state.votes new_state.timeouts (Some t) ≡ Some t
 new-light t =
     let v : heavy vote_width vote_tallies new_state.votes t.0 ≡ false =
     light-heavy vote_width vote_tallies new_state.votes t.0 (zeros-light vote_width vote_tallies votes_length t.0 (omega arith)) in
@@ -318,7 +316,7 @@ new-light t =
     light-heavy timeout_width timeout_tallies new_state.timeouts t.0 (zeros-light timeout_width timeout_tallies timeouts_length t.0 (omega arith)) in
     rw (v, o)
 
-new-started : (r : List ℕ) (t : Stake) → setup_at (drop 2 r) ≡ Total t → started_of (new_seat r) (new_stakes r) new_state.votes new_state.timeouts ≡ Total t
+new-started : (r : List ℕ) (t : Stake) → setup_at (drop 2 r) ≡ Some t → started_of (new_seat r) (new_stakes r) new_state.votes new_state.timeouts ≡ Some t
 unfolding started_of new_stakes
 new-started r t e = rw (← new-shaped r t e, start.loaded-setup members_max (drop 2 r) t (omega arith) e) (new-light t)
 

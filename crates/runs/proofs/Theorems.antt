@@ -8,6 +8,7 @@
 use Prim.Native.Nat.{ℕ, ◌≤◌, ◌<◌}
 use mathlib.Core.List.{List}
 use mathlib.Core.Path.{◌≡◌, refl}
+use Rattle.std.specs.Prelude.{Some}
 use Rattle.certificates.specs.declared.numbers.Hash.{Hash}
 use Rattle.certificates.specs.declared.messages.QC.{QC}
 use Rattle.certificates.specs.Error.{started_again}
@@ -57,7 +58,7 @@ module _ (r : Course) where
   deliveries-recorded {n} {d} k = up_to commit_mark 0 (committed_of (end r)) (commit d n) (course-committed r) (written-only is_commit refl k)
 
   -- A START that comes later is refused with 34, and changes nothing.
-  pub start-once : (e : Event) → form_of e.bytes ≡ Kind.Start → step_on (end r) e ≡ refused_in started_again (end r)
+  pub start-once : (e : Event) → form_of e.bytes ≡ Some Kind.Start → step_on (end r) e ≡ refused_in started_again (end r)
   start-once e k = again (end r) e.room e.bytes k (course-started r)
 
   -- The high QC is below the round, so the own timeout that a TICK counts carries a QC below its round.

@@ -14,8 +14,8 @@ use mathlib.Core.Logic.{◌⊎◌, inl, inr, ⊎_elim}
 use mathlib.Core.Path.{◌≡◌, refl, sym, ap, ◌∙◌}
 use native.Mathlib.Omega.{arith}
 use lib.ListN.{length}
+use Rattle.std.specs.Prelude.{None}
 use Rattle.certificates.specs.Error.{bad_record}
-use Rattle.trace.specs.declared.events.Kind.{Kind}
 use Rattle.trace.specs.Form.{form_of}
 use Rattle.trace.proofs.Forms.{form-short}
 use Rattle.outputs.specs.Records.{Rec}
@@ -33,7 +33,7 @@ pub step-idle : (w : World) → step_on w idle.event ≡ refused_in bad_record w
 step-idle w = bad-record w 0 [] (sym (form-short [] (omega arith)))
 
 -- it is of no kind
-pub idle-bad : (e : Stage) → e ≡ idle → form_of e.event.bytes ≡ Kind.Bad
+pub idle-bad : (e : Stage) → e ≡ idle → form_of e.event.bytes ≡ None
 idle-bad e z = ap (λ (x : Stage). form_of x.event.bytes) z ∙ sym (form-short [] (omega arith))
 
 unfoldable pub at : World → List Stage → ℕ → World

@@ -15,7 +15,7 @@
 --     event_at, found_at, given_at m  its event, the world that the event finds, what it gives
 --     bytes_at, kind_at, block_at m   the event's bytes, its kind, and the block in them where its kind has one
 -- An event that was not saved left nothing, and stands in no course. The TIMER RESET of a restart is left out.
-use Rattle.std.specs.Prelude.{ℕ, Bool, false, cond, List, [], ◌∷◌, ◌++◌, ◌≡◌, replicate}
+use Rattle.std.specs.Prelude.{ℕ, Bool, false, cond, List, [], ◌∷◌, ◌++◌, ◌≡◌, replicate, Option}
 use Rattle.trace.specs.declared.events.Kind.{Kind}
 use Rattle.trace.specs.declared.events.Block.{Block}
 use Rattle.trace.specs.Form.{form_of}
@@ -102,7 +102,7 @@ given_at m = step_on (found_at m) (event_at m)
 abbrev pub bytes_at : {c : Course} → Moment c → List ℕ
 bytes_at m = (event_at m).bytes
 
-abbrev pub kind_at : {c : Course} → Moment c → Kind
+abbrev pub kind_at : {c : Course} → Moment c → Option Kind
 kind_at m = form_of (bytes_at m)
 
 abbrev pub block_at : {c : Course} → Moment c → Block

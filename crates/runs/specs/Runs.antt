@@ -8,7 +8,7 @@
 --     signed_in rs       the VOTEs and TIMEOUTs of a list, in order (is_signed)
 --     delivered_in rs    its COMMITs (is_commit)
 --     round_of, voted_of, committed_of, high_of w  a world's round, last voted and last committed round, and the round of its high QC
-use Rattle.std.specs.Prelude.{ℕ, Bool, true, false, cond, List, [], ◌∷◌, ◌++◌, ◌≡◌}
+use Rattle.std.specs.Prelude.{ℕ, Bool, true, false, cond, List, [], ◌∷◌, ◌++◌, ◌≡◌, Some}
 use Rattle.trace.specs.declared.events.Kind.{Kind}
 use Rattle.trace.specs.Form.{form_of}
 use Rattle.outputs.specs.Records.{Rec, vote, timeout, tc, make, make_with, commit, sync, clean_proposer, clean_mempool, timer_reset, answer}
@@ -25,7 +25,7 @@ step_on w e = stepped w e.room e.bytes
 
 -- START's only answer that is no refusal is 0
 pub record Begun (w : World) (e : Event) : Type 0 where
-  pub start : form_of e.bytes ≡ Kind.Start
+  pub start : form_of e.bytes ≡ Some Kind.Start
   pub taken : (step_on w e).answer ≡ 0
 
 -- ---- records in a list

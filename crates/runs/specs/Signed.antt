@@ -10,12 +10,11 @@
 --     Expired M p t h             p signed a timeout of round t with a high QC of round h
 --     TrueResult M part           the result of a vote certificate is true
 --     Certificate M h n           a vote certificate other than genesis, for the hash h and the round n, accepted and with a true result
-use Rattle.std.specs.Prelude.{ℕ, ◌*◌, ◌≤◌, ◌<◌, true, false, cond, List, ◌∷◌, map, ◌≡◌, length}
+use Rattle.std.specs.Prelude.{ℕ, ◌*◌, ◌≤◌, ◌<◌, true, false, cond, List, ◌∷◌, map, ◌≡◌, length, Ok}
 use Rattle.std.specs.Int.Count.{ones}
 use Rattle.certificates.specs.declared.numbers.Hash.{Hash}
 use Rattle.certificates.specs.declared.numbers.Signers.{Signers}
 use Rattle.certificates.specs.declared.messages.QC.{QC}
-use Rattle.certificates.specs.declared.messages.Checked.TheVariants.{Accepted}
 use Rattle.certificates.specs.Config.{sum, quorum_of}
 use Rattle.certificates.specs.Num.{num_at, hash_at}
 use Rattle.certificates.specs.Signers.{is_in, stake_in, no_signers, member}
@@ -39,11 +38,11 @@ tc_bytes round names highs = bytes_of (number 8 round ∷ number 1 1 ∷ number 
 
 -- the QC of a block or a timeout is accepted by the committee m with the signers that it has; one that equals genesis has none
 abbrev pub GoodQC : List ℕ → QC → Type 0
-GoodQC m q = embedded_check m (quorum_of m) (qc_bytes q) ≡ Accepted (cond (equals_genesis (qc_bytes q)) no_signers q.signers)
+GoodQC m q = embedded_check m (quorum_of m) (qc_bytes q) ≡ Ok (cond (equals_genesis (qc_bytes q)) no_signers q.signers)
 
 -- a TC is accepted with the names that it has
 abbrev pub GoodTC : List ℕ → ℕ → ℕ → List ℕ → Type 0
-GoodTC m round names highs = tc_check m (quorum_of m) (tc_bytes round names highs) ≡ Accepted (record { 0 = names })
+GoodTC m round names highs = tc_check m (quorum_of m) (tc_bytes round names highs) ≡ Ok (record { 0 = names })
 
 abbrev pub Sends : List ℕ → Rec → Type 0
 Sends m (vote to block round) = Unit {0}
@@ -96,5 +95,5 @@ pub record Certificate (M : Members) (h : Hash) (n : ℕ) : Type 0 where
   pub round : num_at 8 part 32 ≡ n
   pub other : equals_genesis part ≡ false
   pub signers : Signers
-  pub accepted : embedded_check M.stakes (quorum_of M.stakes) part ≡ Accepted signers
+  pub accepted : embedded_check M.stakes (quorum_of M.stakes) part ≡ Ok signers
   pub result : TrueResult M part
