@@ -13,6 +13,7 @@ use native.Mathlib.Omega.{arith}
 use borrow.Author.Tests.{eqb-false, ne_eqb}
 use lib.Dec.{eqb}
 use lib.ListN.{length, length-append}
+use Rattle.std.specs.Prelude.{None, Some}
 use Rattle.certificates.specs.declared.numbers.Hash.{Hash}
 use Rattle.certificates.specs.declared.messages.QC.{QC}
 use Rattle.certificates.specs.Num.{num_at, hash_at}
@@ -119,7 +120,7 @@ module _ (M : Members) (C : Cabinets M) (p : ℕ) (o : Sits M p) where
   loop-source i f =
       ⊎_elim
       (λ s. ⊎_elim (from-held i s) (from-order i s f) (C.loopbacks p o (moment M p o i s) (rw s.world f)))
-      (λ z. absurd (let x : Kind.Loopback ≡ Kind.Bad = sym f.kind ∙ idle-bad (stage_at r i) z in let y : ◌≡◌ {A = ℕ} 0 1 = cc in omega arith))
+      (λ z. absurd (let x : Some Kind.Loopback ≡ None = sym f.kind ∙ idle-bad (stage_at r i) z in let y : ◌≡◌ {A = ℕ} 0 1 = cc in omega arith))
       (split (origin r) r.stages i)
 
   source : (i : ℕ) (c : Content) → Processed r i c → Proposed r i c ⊎ ((j : ℕ) × (j < i) × Offered (trace_of r) j c)
@@ -217,7 +218,7 @@ module _ (M : Members) (C : Cabinets M) (p : ℕ) (o : Sits M p) where
   sure-tc i k ne v q n =
       ⊎_elim
       (λ (s : Split (origin r) r.stages i). λ l. (C.results p o).block-tc (moment M p o i s) k.kind ne v q l n)
-      (λ z. absurd (let x : Kind.Propose ≡ Kind.Bad = sym k.kind ∙ idle-bad (stage_at r i) z in let y : ◌≡◌ {A = ℕ} 0 1 = cc in omega arith))
+      (λ z. absurd (let x : Some Kind.Propose ≡ None = sym k.kind ∙ idle-bad (stage_at r i) z in let y : ◌≡◌ {A = ℕ} 0 1 = cc in omega arith))
       (split (origin r) r.stages i)
 
   tc-true : (i : ℕ) → Passed (world_at r i) (event_at r i) → TrueTc (party_of M) (ending_of (block_in r i))
@@ -284,7 +285,7 @@ module _ (M : Members) (C : Cabinets M) (p : ℕ) (o : Sits M p) where
             before = y.1;
             after = rw (core-next r i) y.3;
             current = y.2;
-            took = λ k. let u : took_by Kind.Propose b ≤ y.0 = rw k.0.kind at y.4 in u;
+            took = λ k. let u : took_by (Some Kind.Propose) b ≤ y.0 = rw k.0.kind at y.4 in u;
             rule = ⊎_elim
                 (λ u. inl (omega (arith, x.1)))
                 (λ (u : ExtendsTC b). inr (b.tc_round.0, b.tc_high.0, rw (ne_eqb _ 0 u.some) refl, omega (arith, x.1, u.next), u.high))

@@ -3,7 +3,7 @@
 --     TrueCertificate M q     the QC q is genesis, or whoever it names and obeys signed it
 --     TrueEnding M t names highs     whoever the TC names and obeys signed that timeout
 --     TrueRecord M a      the certificates in the record a are true
-use Rattle.std.specs.Prelude.{ℕ, false, List, ◌≡◌, get_or}
+use Rattle.std.specs.Prelude.{ℕ, false, List, ◌≡◌, get_or, Some}
 use Rattle.certificates.specs.declared.messages.QC.{QC}
 use Rattle.certificates.specs.Signers.{is_in, words}
 use Rattle.certificates.specs.Messages.{is_genesis}
@@ -19,9 +19,9 @@ use Rattle.cabinets.specs.Ledgers.{TrueTC, Truthful}
 module _ (M : Members) where
   pub record AllTruthful (c : Course) : Type 0 where
     pub results : Truthful M c
-    pub timeout : (m : Moment c) → kind_at m ≡ Kind.Timeout → let t = timeout_of (bytes_at m) in
+    pub timeout : (m : Moment c) → kind_at m ≡ Some Kind.Timeout → let t = timeout_of (bytes_at m) in
         t.verdict ≡ 1 → Sits M t.author.0 → Expired M t.author.0 t.round.0 t.qc_round.0
-    pub tc : (m : Moment c) → kind_at m ≡ Kind.Tc → TrueTC M (tc_part (bytes_at m) tc_body)
+    pub tc : (m : Moment c) → kind_at m ≡ Some Kind.Tc → TrueTC M (tc_part (bytes_at m) tc_body)
 
   abbrev pub TrueCertificate : QC → Type 0
   TrueCertificate q = is_genesis q.hash q.round.0 ≡ false → (p : ℕ) → is_in (words q.signers) p ≡ 1 → Sits M p → Signed M p q.hash q.round.0

@@ -9,7 +9,7 @@
 --     delivered c         the blocks that a course delivers, in order, each as its COMMIT
 --     Starts xs ys        xs is the start of ys
 --     OneLedger M         of what two members that obey deliver, one is the start of the other
-use Rattle.std.specs.Prelude.{ℕ, true, false, List, ◌++◌, ◌⊎◌, ◌≡◌, get_or}
+use Rattle.std.specs.Prelude.{ℕ, true, false, List, ◌++◌, ◌⊎◌, ◌≡◌, get_or, Some}
 use Rattle.certificates.specs.Num.{num_at}
 use Rattle.certificates.specs.Signers.{member}
 use Rattle.certificates.specs.Messages.{qc_form, tc_form, verdict_in, places_in, is_genesis, equals_genesis}
@@ -39,11 +39,11 @@ module _ (M : Members) where
   -- The results that come with the events of the course c: a vote's own, those of QCs, and those of TCs in a PROPOSE. A timeout's own result and that of a TC event need
   -- not be true: they bring a unit no further than to a MAKE, and a block that is made from it goes to the others as a PROPOSE. LOOPBACK's are not looked at.
   pub record Truthful (c : Course) : Type 0 where
-    pub vote : (m : Moment c) → kind_at m ≡ Kind.Vote → let v = vote_of (bytes_at m) in
+    pub vote : (m : Moment c) → kind_at m ≡ Some Kind.Vote → let v = vote_of (bytes_at m) in
         v.verdict ≡ 1 → Sits M v.author.0 → Signed M v.author.0 v.hash v.round.0
-    pub timeout-qc : (m : Moment c) → kind_at m ≡ Kind.Timeout → TrueQC (qc_part (bytes_at m) timeout_qc)
-    pub block-qc : (m : Moment c) → kind_at m ≡ Kind.Propose → TrueQC (qc_part (bytes_at m) block_qc)
-    pub block-tc : (m : Moment c) → kind_at m ≡ Kind.Propose → ((block_at m).tc ≡ 0 → ⊥) → TrueTC (tc_part (bytes_at m) (block_at m).tc)
+    pub timeout-qc : (m : Moment c) → kind_at m ≡ Some Kind.Timeout → TrueQC (qc_part (bytes_at m) timeout_qc)
+    pub block-qc : (m : Moment c) → kind_at m ≡ Some Kind.Propose → TrueQC (qc_part (bytes_at m) block_qc)
+    pub block-tc : (m : Moment c) → kind_at m ≡ Some Kind.Propose → ((block_at m).tc ≡ 0 → ⊥) → TrueTC (tc_part (bytes_at m) (block_at m).tc)
 
 -- ---- "one digest names one block"
 

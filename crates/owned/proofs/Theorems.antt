@@ -6,7 +6,7 @@ use Prim.Native.Nat.{ℕ}
 use mathlib.Core.List.{List}
 use mathlib.Core.Path.{◌≡◌, refl, sym, ◌∙◌, ap}
 use lib.ListN.{length}
-use Rattle.certificates.specs.declared.config.Setup.{Setup}
+use Rattle.std.specs.Prelude.{None}
 use Rattle.synchronizer.specs.declared.table.Slot.{Slot}
 use Rattle.replica.specs.declared.stages.Stepped.{Stepped}
 use Rattle.replica.specs.Started.{shaped, started_of}
@@ -44,6 +44,6 @@ module _ (r : Replica) (table : List Slot) (out input : List ℕ) {h : Handed} {
       let e : handed_left h table' out' ≡ handed_left _ _ _ = p ∙ sym q in
       (ap handed_of e, ap (λ (l : Left). l.world.table) e, ap (λ (l : Left). l.out) e)
 
-pub none-started : (table : List Slot) → started (world_of no_replica table) ≡ Setup.Bad
+pub none-started : (table : List Slot) → started (world_of no_replica table) ≡ None
 unfolding started_of shaped
 none-started table = refl

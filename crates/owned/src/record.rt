@@ -31,14 +31,8 @@ pub struct Handed {
 pub fn empty() -> Replica
     ensures { result ≡ no_replica }
 {
-    let hash = Hash {
-        a: 0,
-        b: 0,
-        c: 0,
-        d: 0,
-    };
     let high_qc = QC {
-        hash,
+        hash: Hash::ZERO,
         round: Round(0),
         signers: Signers(0),
     };

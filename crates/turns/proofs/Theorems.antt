@@ -17,6 +17,7 @@ use borrow.Author.Tests.{ltb-true, lt-ltb}
 use lib.Dec.{ltb}
 use lib.ListN.{length, drop, length-take}
 use lib.Seq.{drop-append_seam}
+use Rattle.std.specs.Prelude.{None}
 use Rattle.certificates.specs.Num.{num_at}
 use Rattle.certificates.specs.Error.{bad_record}
 use Rattle.trace.specs.Part.{between}
@@ -24,7 +25,6 @@ use Rattle.trace.specs.Form.{form_of}
 use Rattle.trace.specs.Record.{record_max, split_of, framed}
 use Rattle.trace.specs.declared.record.Front.{Front}
 use Rattle.trace.specs.declared.record.Front.TheVariants.{End, Cut, Small, Record}
-use Rattle.trace.specs.declared.events.Kind.{Kind}
 use Rattle.trace.proofs.FrontLaws.{Whole, front-bounds}
 use Rattle.outputs.specs.Records.{answer, answer_size, enc_all}
 use Rattle.replica.specs.Started.{room_for}
@@ -92,7 +92,7 @@ short-end s {end} p =
     let h : Short (split_of s) = short-by (ltb (length s) 1) (ltb (length s) 2) (ltb record_max n) (ltb (length s) (n + 2)) (ltb n 2) (num_at 2 s 2) n refl in
     rw (← p) at h
 
-short-form : (r : List ℕ) → length r < 2 → form_of r ≡ Kind.Bad
+short-form : (r : List ℕ) → length r < 2 → form_of r ≡ None
 unfolding form_of
 short-form r h = rw (lt-ltb _ _ h)
 

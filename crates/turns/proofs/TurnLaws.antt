@@ -13,13 +13,13 @@ use native.Mathlib.Omega.{arith}
 use lib.Dec.{eqb}
 use lib.ListN.{length, drop, length-append, length-drop}
 use lib.Seq.{sets-eq}
+use Rattle.std.specs.Prelude.{None}
 use Rattle.certificates.specs.Error.{bad_record}
 use Rattle.trace.specs.Part.{between}
 use Rattle.trace.specs.Form.{form_of}
 use Rattle.trace.specs.Record.{split_of, record_of}
 use Rattle.trace.specs.declared.record.Front.{Front}
 use Rattle.trace.specs.declared.record.Front.TheVariants.{End, Cut, Small, Record}
-use Rattle.trace.specs.declared.events.Kind.{Kind}
 use Rattle.outputs.specs.Records.{Rec, answer_size, enc_all}
 use Rattle.outputs.specs.Put.{Wrote}
 use Rattle.outputs.proofs.Wrote.{wrote_then, wrote-start, wrote_count}
@@ -41,7 +41,7 @@ use Rattle.turns.proofs.Closings.{closing-fits}
 
 -- ---- an empty record
 
-empty-form : form_of [] ≡ Kind.Bad
+empty-form : form_of [] ≡ None
 unfolding form_of
 empty-form = refl
 
