@@ -42,6 +42,7 @@ pub fn is_genesis(hash: Hash, round: Round) -> bool
 }
 
 // Ensure the authority has voting rights, then check the signature: the stake of a valid author.
+#[tactic(auto, unfolding(crate::specs::Messages::author_check))]
 pub fn check_author(members: &[u32], author: Place, verdict: u8) -> Result<Stake, AuthorError>
     ensures { result ≡ author_check members.now author.0 verdict }
 {
@@ -64,17 +65,15 @@ fn place_at(form: Form, part: &[u8], i: usize) -> Place
 }
 
 // Whether a place is no member with stake. A signer set has room for no place past the limit.
+#[tactic(auto, unfolding(crate::specs::Messages::unknown_to))]
 fn is_unknown(members: &[u32], p: Place) -> bool
     ensures { result ≡ unknown_to members.now p.0 }
 {
-    if MEMBERS_MAX <= p.0 as usize {
-        return true;
-    }
-    let held = stake(members, p);
-    held.0 == 0
+    MEMBERS_MAX <= p.0 as usize || stake(members, p).0 == 0
 }
 
 // Signers of whom each is known and none is named twice: the quorum, and then the verdict.
+#[tactic(auto, unfolding(crate::specs::Messages::settled_by))]
 fn settle(
     members: &[u32],
     need: Stake,
@@ -141,6 +140,7 @@ fn check_part(
 }
 
 // QC::verify.
+#[tactic(auto, unfolding(crate::specs::Messages::qc_check))]
 pub fn check_qc(members: &[u32], need: Stake, part: &[u8]) -> Result<Signers, CertificateError>
     ensures { result ≡ qc_check members.now need.0 part.now }
 {
@@ -148,6 +148,7 @@ pub fn check_qc(members: &[u32], need: Stake, part: &[u8]) -> Result<Signers, Ce
 }
 
 // TC::verify.
+#[tactic(auto, unfolding(crate::specs::Messages::tc_check))]
 pub fn check_tc(members: &[u32], need: Stake, part: &[u8]) -> Result<Signers, CertificateError>
     ensures { result ≡ tc_check members.now need.0 part.now }
 {
@@ -155,18 +156,18 @@ pub fn check_tc(members: &[u32], need: Stake, part: &[u8]) -> Result<Signers, Ce
 }
 
 // Whether the bytes are a QC that equals genesis. Bytes that end before its round does are none.
+#[tactic(auto, unfolding(crate::specs::Messages::equals_genesis))]
 pub fn equals_genesis(part: &[u8]) -> bool
     ensures { result ≡ equals_genesis part.now }
 {
     if part.len() < Form::QC.at {
         return false;
     }
-    let hash = hash_at(part, 0);
-    let round = u64_at(part, 32);
-    is_genesis(hash, Round(round))
+    is_genesis(hash_at(part, 0), Round(u64_at(part, 32)))
 }
 
 // The QC inside a block or a timeout: one that equals genesis is not checked, and names no signers.
+#[tactic(auto, unfolding(crate::specs::Messages::embedded_check))]
 pub fn check_embedded_qc(
     members: &[u32],
     need: Stake,
