@@ -17,7 +17,8 @@ use Rattle.certificates.specs.declared.numbers.Signers.{Signers}
 use Rattle.certificates.specs.declared.error.CertificateError.{CertificateError}
 use Rattle.certificates.specs.declared.error.CertificateError.TheVariants.{AuthorityReuse, UnknownAuthority, RequiresQuorum, InvalidSignature, Cut}
 use Rattle.certificates.specs.Signers.{is_in, stake_in, both, words, no_signers, signers_of, weight_of, member, stake_on, shared}
-use Rattle.certificates.specs.Messages.{Form, qc_form, tc_form, verdict_in, count_of, places_in, is_whole, unknown_to, settled_of, check_from, check_part}
+use Rattle.certificates.specs.declared.messages.Form.{Form}
+use Rattle.certificates.specs.Messages.{qc_form, tc_form, verdict_in, count_of, places_in, is_whole, unknown_to, settled_of, check_from, check_part}
 use Rattle.certificates.specs.Messages.{qc_check, tc_check, equals_genesis, embedded_check}
 use Rattle.certificates.proofs.Bytes.{length-nums}
 use Rattle.certificates.proofs.ConfigLaws.{stake-member}

@@ -17,7 +17,8 @@ use Rattle.certificates.specs.declared.error.CertificateError.TheVariants.{Autho
 use Rattle.certificates.specs.Num.{num_at, nums_at}
 use Rattle.certificates.specs.Config.{members_max, stake_of}
 use Rattle.certificates.specs.Signers.{weight_of, member}
-use Rattle.certificates.specs.Messages.{Form, verdict_in, count_of, places_in, is_whole, unknown_to, settled_of, settled_by, check_from, check_part}
+use Rattle.certificates.specs.declared.messages.Form.{Form}
+use Rattle.certificates.specs.Messages.{verdict_in, count_of, places_in, is_whole, unknown_to, settled_of, settled_by, check_from, check_part}
 use Rattle.certificates.proofs.Places.{member-take}
 use Rattle.certificates.proofs.Clean.{Signed}
 

@@ -22,7 +22,8 @@ use Rattle.certificates.specs.declared.numbers.Signers.{Signers}
 use Rattle.certificates.specs.declared.error.CertificateError.{CertificateError}
 use Rattle.certificates.specs.Config.{members_max, sum, stake_of, quorum_of}
 use Rattle.certificates.specs.Signers.{is_in, stake_in, words, no_signers, signers_of, weight_of, member, stake_on, shared}
-use Rattle.certificates.specs.Messages.{Form, qc_form, tc_form, verdict_in, count_of, places_in, check_part, qc_check, tc_check, equals_genesis, embedded_check}
+use Rattle.certificates.specs.declared.messages.Form.{Form}
+use Rattle.certificates.specs.Messages.{qc_form, tc_form, verdict_in, count_of, places_in, check_part, qc_check, tc_check, equals_genesis, embedded_check}
 use Rattle.certificates.proofs.ConfigLaws.{stake-member}
 use Rattle.certificates.proofs.Accepted.{walked-distinct, distinct-walked, shared-stake, qc-part, tc-part, embedded-part, certified, accepted, length-places, certified-named, certified-known}
 use Rattle.certificates.proofs.Overlap.{quorums-share, quorums-common}

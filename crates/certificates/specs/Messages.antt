@@ -18,6 +18,7 @@ use Rattle.std.specs.Prelude.{ℕ, ◌+◌, ◌*◌, List, [], ◌∷◌, ◌++�
 use Rattle.certificates.specs.declared.numbers.Hash.{Hash}
 use Rattle.certificates.specs.declared.numbers.Signers.{Signers}
 use Rattle.certificates.specs.declared.numbers.Stake.{Stake}
+use Rattle.certificates.specs.declared.messages.Form.{Form}
 use Rattle.certificates.specs.declared.error.CertificateError.{CertificateError}
 use Rattle.certificates.specs.declared.error.CertificateError.TheVariants.{AuthorityReuse, UnknownAuthority, RequiresQuorum, InvalidSignature, Cut}
 use Rattle.certificates.specs.declared.error.AuthorError.{AuthorError}
@@ -32,10 +33,6 @@ unfoldable pub is_genesis : Hash → ℕ → Bool
 is_genesis h round = cond (same_hash h zero_hash) (eqb round 0) false
 
 -- ---- the bytes of a certificate
-
-pub record Form : Type 0 where
-  pub at : ℕ
-  pub stride : ℕ
 
 -- "QC: hash 32, round 8, verdict 1, count 2, places 2 each."
 abbrev pub qc_form : Form

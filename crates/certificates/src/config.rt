@@ -36,6 +36,7 @@ pub fn stake(members: &[u32], place: Place) -> Stake
 }
 
 // Two thirds of the total, rounded down, and one more.
+#[tactic(auto, unfolding(crate::specs::Config::quorum_from))]
 pub fn quorum_threshold(total: Stake) -> Stake
     ensures { result.0 ≡ quorum_from total.0 }
 {
@@ -45,6 +46,7 @@ pub fn quorum_threshold(total: Stake) -> Stake
 }
 
 // The total, where it keeps the limit.
+#[tactic(auto, unfolding(crate::specs::Config::limited))]
 fn limit(total: u64) -> Option<Stake>
     ensures { result ≡ limited total }
 {
@@ -82,20 +84,18 @@ fn sum_stakes(members: &[u32]) -> u64
 }
 
 // The total stake of a committee: none without members, with too many, or with too much stake.
+#[tactic(auto, unfolding(crate::specs::Config::setup_of))]
 pub fn total_stake(members: &[u32]) -> Option<Stake>
     ensures { result ≡ setup_of members.now }
 {
-    let n = members.len();
-    if n == 0 {
-        return None;
-    }
-    if MEMBERS_MAX < n {
+    if members.is_empty() || MEMBERS_MAX < members.len() {
         return None;
     }
     limit(sum_stakes(members))
 }
 
 // The member count in START's body.
+#[tactic(auto, unfolding(crate::specs::Start::member_count))]
 pub fn member_count(body: &[u8]) -> u16
     ensures { result ≡ member_count body.now }
 {
@@ -103,6 +103,7 @@ pub fn member_count(body: &[u8]) -> u16
 }
 
 // The own place in START's body.
+#[tactic(auto, unfolding(crate::specs::Start::own_place))]
 pub fn own_place(body: &[u8]) -> Place
     ensures { result.0 ≡ own_place body.now }
 {
@@ -113,12 +114,11 @@ pub fn own_place(body: &[u8]) -> Place
 fn stake_in(body: &[u8], i: usize) -> u32
     ensures { result ≡ stake_of (stakes_in body.now) i }
 {
-    let n = member_count(body) as usize;
-    if i < n {
-        let at = MEMBERS_AT + KEY_LEN + MEMBER_LEN * i;
-        return u32_at(body, at);
+    if i < member_count(body) as usize {
+        u32_at(body, MEMBERS_AT + KEY_LEN + MEMBER_LEN * i)
+    } else {
+        0
     }
-    0
 }
 
 // The stake of the first `n` members in START's body.
@@ -134,18 +134,14 @@ fn sum_in(body: &[u8], n: usize) -> u64
 }
 
 // Whether the next eight of so many bytes that are left lie in the body at both places, and are the same.
+#[tactic(auto, unfolding(crate::specs::Start::same_word))]
 fn is_word_same(body: &[u8], x: usize, y: usize, left: usize) -> bool
     ensures { result ≡ same_word body.now x y left }
 {
-    if left < WORD {
-        return false;
-    }
-    if holds(body, x, WORD) {
-        if holds(body, y, WORD) {
-            return u64_at(body, x) == u64_at(body, y);
-        }
-    }
-    false
+    WORD <= left
+        && holds(body, x, WORD)
+        && holds(body, y, WORD)
+        && u64_at(body, x) == u64_at(body, y)
 }
 
 // Whether the key at `a` is below the key at `b`: the first byte that differs decides. Words that are the
@@ -188,17 +184,12 @@ pub fn check_setup(body: &[u8]) -> Option<Stake>
     ensures { result ≡ setup_at body.now }
 {
     let n = member_count(body) as usize;
-    let own = own_place(body);
-    if n <= own.0 as usize {
-        return None;
+    let own = own_place(body).0 as usize;
+    if own < n && n <= MEMBERS_MAX && keys_ascend(body, n) {
+        limit(sum_in(body, n))
+    } else {
+        None
     }
-    if MEMBERS_MAX < n {
-        return None;
-    }
-    if keys_ascend(body, n) {
-        return limit(sum_in(body, n));
-    }
-    None
 }
 
 // The stakes of START's body into a lent slice: member by member, and 0 past the last.

@@ -6,14 +6,12 @@ use crate::config::MEMBERS_MAX;
 use crate::numbers::{Place, Round};
 
 // The members lead in turn, by their places. Outside the limits of a committee, place 0.
+#[tactic(auto, unfolding(crate::specs::Leader::leader_of))]
 pub fn get_leader(members: &[u32], round: Round) -> Place
     ensures { result.0 ≡ leader_of members.now round.0 }
 {
     let n = members.len();
-    if n == 0 {
-        return Place(0);
-    }
-    if MEMBERS_MAX < n {
+    if n == 0 || MEMBERS_MAX < n {
         return Place(0);
     }
     let k = n as u64;

@@ -10,14 +10,20 @@ use crate::num::{hash_at, raw16, u8_at, u16_at, u64_at};
 use crate::numbers::{Hash, Place, Round, Signers, Stake};
 use crate::signers::weight;
 
-// Where the verdict of a QC and of a TC stands, and how long an entry of their lists is.
-const QC_VERDICT: usize = 40;
+// How a certificate lies in bytes: where its verdict is, and how long an entry of its list.
+#[derive(Clone, Copy, Debug, PartialEq, Eq)]
+struct Form {
+    at: usize,
+    stride: usize,
+}
 
-const QC_ENTRY: usize = 2;
+impl Form {
+    // Hash 32 and round 8 stand before the verdict of a QC, and an entry is a place.
+    const QC: Form = Form { at: 40, stride: 2 };
 
-const TC_VERDICT: usize = 8;
-
-const TC_ENTRY: usize = 10;
+    // Round 8 stands before that of a TC, and an entry is a place and a high round.
+    const TC: Form = Form { at: 8, stride: 10 };
+}
 
 // A certificate as it is kept: of a block's digest and a round, by these signers.
 #[derive(Clone, Copy)]
@@ -36,6 +42,7 @@ pub fn is_genesis(hash: Hash, round: Round) -> bool
 }
 
 // Ensure the authority has voting rights, then check the signature: the stake of a valid author.
+#[tactic(auto, unfolding(crate::specs::Messages::author_check))]
 pub fn check_author(members: &[u32], author: Place, verdict: u8) -> Result<Stake, AuthorError>
     ensures { result ≡ author_check members.now author.0 verdict }
 {
@@ -49,26 +56,24 @@ pub fn check_author(members: &[u32], author: Place, verdict: u8) -> Result<Stake
     Ok(held)
 }
 
-// The place in entry `i` of the list at `at`, whose entries are `stride` bytes each.
-fn place_at(part: &[u8], at: usize, stride: usize, i: usize) -> Place
-    requires { at + stride * i + 2 ≤ length part.now }
-    ensures { result.0 ≡ num_at 2 part.now (at + stride * i) }
+// The place in entry `i` of the list: verdict 1 and count 2 stand before it.
+fn place_at(form: Form, part: &[u8], i: usize) -> Place
+    requires { form.at + 3 + form.stride * i + 2 ≤ length part.now }
+    ensures { result.0 ≡ num_at 2 part.now (form.at + 3 + form.stride * i) }
 {
-    Place(raw16(part, at + stride * i))
+    Place(raw16(part, form.at + 3 + form.stride * i))
 }
 
 // Whether a place is no member with stake. A signer set has room for no place past the limit.
+#[tactic(auto, unfolding(crate::specs::Messages::unknown_to))]
 fn is_unknown(members: &[u32], p: Place) -> bool
     ensures { result ≡ unknown_to members.now p.0 }
 {
-    if MEMBERS_MAX <= p.0 as usize {
-        return true;
-    }
-    let held = stake(members, p);
-    held.0 == 0
+    MEMBERS_MAX <= p.0 as usize || stake(members, p).0 == 0
 }
 
 // Signers of whom each is known and none is named twice: the quorum, and then the verdict.
+#[tactic(auto, unfolding(crate::specs::Messages::settled_by))]
 fn settle(
     members: &[u32],
     need: Stake,
@@ -88,91 +93,81 @@ fn settle(
     }
 }
 
-// The list of `n` signers at `at`. The outer loop goes over the signers and the inner one over
-// those before; the label leaves both at the first repeat, and at the first unknown place.
+// The list of `n` signers: at the first repeat, and at the first unknown place, it is refused.
 fn check_list(
+    form: Form,
     members: &[u32],
     need: Stake,
     part: &[u8],
-    at: usize,
-    stride: usize,
     n: usize,
     verdict: bool,
 ) -> Result<Signers, CertificateError>
-    requires { (2 ≤ stride) × (at + stride * n ≤ length part.now) }
-    ensures { result ≡ check_from members.now need.0 verdict [] (nums_at 2 stride n part.now at) }
+    requires { (2 ≤ form.stride) × (form.at + 3 + form.stride * n ≤ length part.now) }
+    ensures { result ≡ check_from members.now need.0 verdict [] (nums_at 2 form.stride n part.now (form.at + 3)) }
 {
     let mut word: u64 = 0;
-    let mut i = 0;
-    let answer = 'signers: loop {
-        if n <= i {
-            break 'signers settle(members, need, verdict, Signers(word));
-        }
-        let p = place_at(part, at, stride, i);
-        let mut j = 0;
-        while j < i {
-            let q = place_at(part, at, stride, j);
-            if q.0 == p.0 {
-                break 'signers Err(CertificateError::AuthorityReuse(p));
+    for i in 0..n {
+        let p = place_at(form, part, i);
+        for j in 0..i {
+            if place_at(form, part, j) == p {
+                return Err(CertificateError::AuthorityReuse(p));
             }
-            j += 1;
         }
         if is_unknown(members, p) {
-            break 'signers Err(CertificateError::UnknownAuthority(p));
+            return Err(CertificateError::UnknownAuthority(p));
         }
         word |= 1u64 << p.0;
-        i += 1;
-    };
-    answer
+    }
+    settle(members, need, verdict, Signers(word))
 }
 
-// The end of a certificate, from `at` on: verdict 1, count 2, then the entries.
-fn check_tail(
+// A certificate of a form: verdict 1, count 2, then the entries.
+fn check_part(
+    form: Form,
     members: &[u32],
     need: Stake,
     part: &[u8],
-    at: usize,
-    stride: usize,
 ) -> Result<Signers, CertificateError>
-    requires { (at ≤ 40) × (2 ≤ stride) × (stride ≤ 10) }
-    ensures { result ≡ check_part record { at = at; stride = stride } members.now need.0 part.now }
+    requires { (form.at ≤ 40) × (2 ≤ form.stride) × (form.stride ≤ 10) }
+    ensures { result ≡ check_part form members.now need.0 part.now }
 {
-    let verdict = u8_at(part, at);
-    let n = u16_at(part, at + 1) as usize;
-    let head = at + 3;
-    if part.len() < head + stride * n {
+    let verdict = u8_at(part, form.at);
+    let n = u16_at(part, form.at + 1) as usize;
+    if part.len() < form.at + 3 + form.stride * n {
         return Err(CertificateError::Cut);
     }
-    check_list(members, need, part, head, stride, n, verdict == 1)
+    check_list(form, members, need, part, n, verdict == 1)
 }
 
-// QC::verify: hash 32 and round 8 stand before its end, and an entry is a place.
+// QC::verify.
+#[tactic(auto, unfolding(crate::specs::Messages::qc_check))]
 pub fn check_qc(members: &[u32], need: Stake, part: &[u8]) -> Result<Signers, CertificateError>
     ensures { result ≡ qc_check members.now need.0 part.now }
 {
-    check_tail(members, need, part, QC_VERDICT, QC_ENTRY)
+    check_part(Form::QC, members, need, part)
 }
 
-// TC::verify: round 8 stands before its end, and an entry is a place and a high round.
+// TC::verify.
+#[tactic(auto, unfolding(crate::specs::Messages::tc_check))]
 pub fn check_tc(members: &[u32], need: Stake, part: &[u8]) -> Result<Signers, CertificateError>
     ensures { result ≡ tc_check members.now need.0 part.now }
 {
-    check_tail(members, need, part, TC_VERDICT, TC_ENTRY)
+    check_part(Form::TC, members, need, part)
 }
 
 // Whether the bytes are a QC that equals genesis. Bytes that end before its round does are none.
+#[tactic(auto, unfolding(crate::specs::Messages::equals_genesis))]
 pub fn equals_genesis(part: &[u8]) -> bool
     ensures { result ≡ equals_genesis part.now }
 {
-    if part.len() < QC_VERDICT {
+    if part.len() < Form::QC.at {
         return false;
     }
-    let hash = hash_at(part, 0);
-    let round = u64_at(part, 32);
-    is_genesis(hash, Round(round))
+    is_genesis(hash_at(part, 0), Round(u64_at(part, 32)))
 }
 
 // The QC inside a block or a timeout: one that equals genesis is not checked, and names no signers.
+#[tactic(auto, unfolding(crate::specs::Messages::embedded_check))]
 pub fn check_embedded_qc(
     members: &[u32],
     need: Stake,

@@ -44,11 +44,7 @@ fn raw64(s: &[u8], at: usize) -> u64
 pub(crate) fn holds(s: &[u8], at: usize, w: usize) -> bool
     ensures { result ≡ leb (at + w) (length s.now) }
 {
-    if w <= s.len() {
-        if at <= s.len() - w { true } else { false }
-    } else {
-        false
-    }
+    w <= s.len() && at <= s.len() - w
 }
 
 pub fn u8_at(s: &[u8], at: usize) -> u8

@@ -2,15 +2,15 @@
 use borrow.Author.Rules.{rules}
 use Rattle.certificates.proofs.StartLaws.{start-own, start-many, start-keys, start-good}
 use Rattle.certificates.proofs.config.check_setup.Goals as goal
-
-pub returns-then-n-own : goal.returns-then-n-own
-returns-then-n-own c = search (rules, start-own)
-
-pub returns-then-n-gt-MEMBERS_MAX : goal.returns-then-n-gt-MEMBERS_MAX
-returns-then-n-gt-MEMBERS_MAX c = search (rules, start-many)
+use Rattle.certificates.proofs.config.check_setup.Goals.{else-own-n-via-then-own-n+then-n-le-MEMBERS_MAX+else-keys_ascend, else-own-n-via-then-own-n+else-n-le-MEMBERS_MAX, else-own-n-via-else-own-n}
 
 pub returns-then-keys_ascend : goal.returns-then-keys_ascend
 returns-then-keys_ascend c = search (rules, start-good)
 
-pub returns : goal.returns
-returns c = search (rules, start-keys)
+pub returns-else-own-n : goal.returns-else-own-n
+returns-else-own-n c =
+    elim c.else-own-n.branch [
+      | else-own-n-via-then-own-n+then-n-le-MEMBERS_MAX+else-keys_ascend w ↦ search (rules, start-keys)
+      | else-own-n-via-then-own-n+else-n-le-MEMBERS_MAX w ↦ search (rules, start-many)
+      | else-own-n-via-else-own-n w ↦ search (rules, start-own)
+    ]

@@ -3,8 +3,8 @@ use borrow.Author.Rules.{rules}
 use Rattle.certificates.proofs.StartLaws.{stakes-at, stakes-past}
 use Rattle.certificates.proofs.config.stake_in.Goals as goal
 
-pub returns-then-i-n : goal.returns-then-i-n
-returns-then-i-n c = search (rules, stakes-at)
+pub returns-then-i-member_count : goal.returns-then-i-member_count
+returns-then-i-member_count c = search (rules, stakes-at)
 
-pub returns : goal.returns
-returns c = search (rules, stakes-past)
+pub returns-else-i-member_count : goal.returns-else-i-member_count
+returns-else-i-member_count c = search (rules, stakes-past)
