@@ -8,20 +8,13 @@ use lib.ListN.{length, get_or, take, drop, set, replicate}
 use lib.Seq.{set_out}
 use borrow.Author.Tests.{eq-eqb, ne_eqb}
 use Rattle.certificates.specs.Num.{num_at}
-use Rattle.trace.specs.Layout.{signers_max, qc_part, tc_part, highs_in, flag_at, tc_at, block_end, payload_of, largest, largest_high, highs_up_to, highs_of}
+use Rattle.trace.specs.Layout.{signers_max, highs_in, flag_at, tc_at, block_end, payload_of, largest, largest_high, highs_up_to, highs_of}
 use Rattle.trace.proofs.Parts.{num-drop}
 
+pub count_after : (s : List ℕ) (at i : ℕ) → num_at 2 (drop at s) i ≡ num_at 2 s (at + i)
+count_after s at i = num-drop 2 s at i (omega arith)
+
 module _ (s : List ℕ) where
-  -- ---- parts
-
-  pub qc-part-read : (at : ℕ) {t p : List ℕ} {n : ℕ} → t ≡ drop at s → n ≡ num_at 2 t 41 → p ≡ take (43 + 2 * n) t → p ≡ qc_part s at
-  unfolding qc_part
-  qc-part-read at e f g = rw (← num-drop 2 s at 41 (omega arith), ← e, ← f) g
-
-  pub tc-part-read : (at : ℕ) {t p : List ℕ} {n : ℕ} → t ≡ drop at s → n ≡ num_at 2 t 9 → p ≡ take (11 + 10 * n) t → p ≡ tc_part s at
-  unfolding tc_part
-  tc-part-read at e f g = rw (← num-drop 2 s at 9 (omega arith), ← e, ← f) g
-
   -- ---- a block
 
   pub flag-place : {n : ℕ} → n ≡ num_at 2 s 86 → 88 + 2 * n ≡ flag_at s
@@ -86,5 +79,5 @@ module _ (t : List ℕ) where
   unfolding highs_of
   highs-last i e a b h = let q : i ≡ num_at 2 t 9 = omega arith in rw (← q) h
 
-pub put-past : (xs : List ℕ) (p h : ℕ) → length xs ≤ p → xs ≡ set xs p h
-put-past xs p h l = sym (set_out xs p h l)
+pub put_past : (xs : List ℕ) (p h : ℕ) → length xs ≤ p → xs ≡ set xs p h
+put_past xs p h l = sym (set_out xs p h l)

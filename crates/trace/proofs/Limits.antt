@@ -1,6 +1,6 @@
 -- The limits of a record: one law for each way out of the functions of `events` that test them. Assumes nothing.
 use mathlib.Core.Path.{◌≡◌, refl, ◌∙◌}
-use mathlib.Core.Bool.{false}
+use mathlib.Core.Bool.{Bool, true, false}
 use mathlib.Core.Logic.{◌⊎◌, inl, inr}
 use mathlib.Core.List.{List}
 use Prim.Native.Nat.{ℕ, max, ◌+◌, ◌≤◌, ◌<◌}
@@ -56,12 +56,6 @@ module _ (s : List ℕ) where
   pub limit-tc : {k : Kind} {c x n : ℕ} → k ≡ Tc → c ≡ num_at 2 s 11 → x ≡ largest (tc_rounds s 2) → n ≡ bounded c x → n ≡ limit_of s k
   limit-tc e f g h = rw e (h ∙ rw (f, g) (rw largest-one at (limit-bounded s Tc refl)))
 
-  pub limit-propose : {k : Kind} {n : ℕ} → k ≡ Propose → n ≡ limit_of s Propose → n ≡ limit_of s k
-  limit-propose e f = rw e f
-
-  pub limit-loopback : {k : Kind} {n : ℕ} → k ≡ Loopback → n ≡ limit_of s Loopback → n ≡ limit_of s k
-  limit-loopback e f = rw e f
-
   -- ---- a block
 
   module _ {tc : ℕ} (t : tc ≡ tc_at s) where
@@ -90,17 +84,12 @@ module _ (s : List ℕ) where
       block-limit-tc o i j k l p =
           p ∙ rw (j, i, l, k, e, h, f, g) (rw (counts-tc o, rounds-tc o) at (limit-bounded s Propose refl))
 
-    pub loopback-empty : {c : ℕ} → (tc ≡ 0 → ⊥) → c ≡ num_at 2 s (tc + 9) → c ≡ 0 → 32 ≡ limit_of s Loopback
-    unfolding limit_of
-    loopback-empty o e z = rw (← t, ne_eqb _ _ o, ← e, eq-eqb _ _ z)
+  -- ---- a LOOPBACK is a block whose TC is not empty
 
-    full : empty_tc s Loopback ≡ false → limit_of s Propose ≡ limit_of s Loopback
-    unfolding limit_of
-    full e = rw e
+  pub loopback-empty : {k : Kind} {b : Bool} → k ≡ Loopback → b ≡ empty_tc s Loopback → b ≡ true → 32 ≡ limit_of s k
+  unfolding limit_of
+  loopback-empty e f g = rw (e, ← f, g)
 
-    module _ {n : ℕ} (p : n ≡ limit_of s Propose) where
-      pub loopback-plain : tc ≡ 0 → n ≡ limit_of s Loopback
-      loopback-plain z = p ∙ full (rw (← t, eq-eqb _ _ z))
-
-      pub loopback-full : {c : ℕ} → (tc ≡ 0 → ⊥) → c ≡ num_at 2 s (tc + 9) → (c ≡ 0 → ⊥) → n ≡ limit_of s Loopback
-      loopback-full o e z = p ∙ full (rw (← t, ne_eqb _ _ o, ← e, ne_eqb _ _ z))
+  pub loopback-full : {k : Kind} {b : Bool} {n : ℕ} → k ≡ Loopback → b ≡ empty_tc s Loopback → b ≡ false → n ≡ limit_of s Propose → n ≡ limit_of s k
+  unfolding limit_of
+  loopback-full e f g p = p ∙ rw (e, ← f, g)

@@ -4,8 +4,8 @@ use Rattle.trace.proofs.Limits.{block-limit-plain, block-limit-tc}
 use borrow.Author.Rules.{rules}
 use Rattle.trace.proofs.events.block_limit.Goals as goal
 
-pub returns-then-tc-eq0 : goal.returns-then-tc-eq0
-returns-then-tc-eq0 c = search (rules, block-limit-plain)
+pub returns-in-Some : goal.returns-in-Some
+returns-in-Some c = search (rules, block-limit-tc)
 
-pub returns : goal.returns
-returns c = search (rules, block-limit-tc)
+pub returns-in-None : goal.returns-in-None
+returns-in-None c = search (rules, block-limit-plain)

@@ -1,14 +1,11 @@
 -- `trace::events::limit_of` meets its contract: each arm has its law.
 -- Assumes nothing.
-use Rattle.trace.proofs.Limits.{limit-none, limit-propose, limit-vote, limit-timeout, limit-tc, limit-loopback}
+use Rattle.trace.proofs.Limits.{limit-none, limit-vote, limit-timeout, limit-tc, loopback-empty, loopback-full}
 use borrow.Author.Rules.{rules}
 use Rattle.trace.proofs.events.limit_of.Goals as goal
 
 pub returns-in-Start : goal.returns-in-Start
 returns-in-Start c = limit-none _ c.in-Start.is
-
-pub returns-in-Propose : goal.returns-in-Propose
-returns-in-Propose c = search (rules, limit-propose)
 
 pub returns-in-Vote : goal.returns-in-Vote
 returns-in-Vote c = search (rules, limit-vote)
@@ -19,5 +16,8 @@ returns-in-Timeout c = search (rules, limit-timeout)
 pub returns-in-Tc : goal.returns-in-Tc
 returns-in-Tc c = search (rules, limit-tc)
 
-pub returns-in-Loopback : goal.returns-in-Loopback
-returns-in-Loopback c = search (rules, limit-loopback)
+pub returns-then-has_empty_tc : goal.returns-then-has_empty_tc
+returns-then-has_empty_tc c = search (rules, loopback-empty)
+
+pub returns-else-has_empty_tc : goal.returns-else-has_empty_tc
+returns-else-has_empty_tc c = search (rules, loopback-full)
