@@ -4,7 +4,7 @@ use mathlib.Core.List.{List, [], ◌∷◌}
 use Prim.Native.Nat.{ℕ, max, ◌+◌, ◌-◌, ◌*◌, ◌≤◌, ◌<◌}
 use native.Mathlib.Numerals.{add-one}
 use native.Mathlib.Omega.{arith}
-use lib.ListN.{length, get_or, take, drop, set, replicate}
+use lib.ListN.{length, get_or, drop, set, replicate}
 use lib.Seq.{set_out}
 use borrow.Author.Tests.{eq-eqb, ne_eqb}
 use Rattle.certificates.specs.Num.{num_at}
@@ -70,10 +70,10 @@ module _ (t : List ℕ) where
   unfolding highs_up_to
   highs-none ys l e = rw l at e
 
-  pub highs-more : (i : ℕ) {xs ys : List ℕ} {p h : ℕ} → xs ≡ highs_up_to t i → p ≡ num_at 2 t (11 + 10 * i) → h ≡ num_at 8 t (13 + 10 * i)
+  pub highs_more : (i : ℕ) {xs ys : List ℕ} {p h : ℕ} → xs ≡ highs_up_to t i → p ≡ num_at 2 t (11 + 10 * i) → h ≡ num_at 8 t (13 + 10 * i)
       → ys ≡ set xs p h → ys ≡ highs_up_to t (i + 1)
   unfolding highs_up_to
-  highs-more i e f g h = rw (add-one, ← e, ← f, ← g) h
+  highs_more i e f g h = rw (add-one, ← e, ← f, ← g) h
 
   pub highs-last : {n : ℕ} (i : ℕ) {xs : List ℕ} → n ≡ num_at 2 t 9 → i ≤ n → n ≤ i → xs ≡ highs_up_to t i → xs ≡ highs_of t
   unfolding highs_of

@@ -93,3 +93,7 @@ module _ (s : List ℕ) where
   pub loopback-full : {k : Kind} {b : Bool} {n : ℕ} → k ≡ Loopback → b ≡ empty_tc s Loopback → b ≡ false → n ≡ limit_of s Propose → n ≡ limit_of s k
   unfolding limit_of
   loopback-full e f g p = p ∙ rw (e, ← f, g)
+
+pub ruleset block_ways = (block-limit-plain, block-limit-tc)
+
+pub ruleset limit_ways = (limit-none, limit-vote, limit-timeout, limit-tc, loopback-empty, loopback-full)

@@ -256,6 +256,7 @@ fn is_formed(record: &[u8], kind: Kind) -> bool
 }
 
 // The kind of a record that has the form of its kind, and None for any other.
+#[tactic(auto, using(crate::proofs::Forms::form_ways))]
 pub fn form_of(record: &[u8]) -> Option<Kind>
     ensures { result ≡ form_of «record».now }
 {
@@ -292,7 +293,7 @@ fn put_high(highs: &mut [u64], place: usize, round: u64)
 }
 
 // The high round of each place, and 0 for one that has no entry.
-#[tactic(auto, unfolding(crate::specs::Layout::highs_of, crate::specs::Layout::highs_up_to))]
+#[tactic(auto, using(crate::proofs::Layouts::highs_more), unfolding(crate::specs::Layout::highs_of, crate::specs::Layout::highs_up_to))]
 pub fn highs_of(highs: &mut [u64], part: &[u8])
     requires { length highs.old ≡ signers_max }
     ensures { highs.new ≡ highs_of part.now }
@@ -329,6 +330,7 @@ fn tc_rounds(record: &[u8], at: usize) -> u64
     u64_at(record, at).max(high)
 }
 
+#[tactic(auto, using(crate::proofs::Limits::block_ways))]
 fn block_limit(record: &[u8]) -> u16
     ensures { result ≡ limit_of «record».now Kind.Propose }
 {
@@ -351,6 +353,7 @@ fn has_empty_tc(record: &[u8]) -> bool
 }
 
 // 32, 20 or 19 for a record that passes a limit, in this order, and else 0.
+#[tactic(auto, using(crate::proofs::Limits::limit_ways))]
 pub fn limit_of(record: &[u8], kind: Kind) -> u16
     ensures { result ≡ limit_of «record».now kind }
 {
