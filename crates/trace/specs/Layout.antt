@@ -1,5 +1,6 @@
 -- 01, The trace form: "Parts." A record here is what follows the length: kind 2, then the body. What a record does not have reads as 0.
 --     signers_max                                         the most signers of a list
+--     count_of, size_by, part_of c r at                   of a certificate that lies as c says and starts at a place of the record r: its count, how long it is, itself
 --     qc_round, qc_verdict, qc_count, qc_size, qc_part r at  of the QC that starts at a place of the record r
 --     tc_round, tc_verdict, tc_count, tc_size, tc_part r at  of the TC that starts there
 --     place_in, high_in t i                               place and high round of entry i of the TC t

@@ -127,7 +127,7 @@ const TC: Certificate = Certificate {
 
 impl Certificate {
     // The count of the certificate that starts at a place of the record.
-    #[tactic(auto, using(crate::proofs::Layouts::count_after))]
+    #[tactic(auto, using(crate::proofs::Parts::count_after))]
     fn count_at(self, record: &[u8], at: usize) -> u16
         ensures { result ≡ count_of self «record».now at }
     {
@@ -256,7 +256,7 @@ fn is_formed(record: &[u8], kind: Kind) -> bool
 }
 
 // The kind of a record that has the form of its kind, and None for any other.
-#[tactic(auto, using(crate::proofs::Forms::form_ways))]
+#[tactic(auto, unfolding(crate::specs::Form::form_of))]
 pub fn form_of(record: &[u8]) -> Option<Kind>
     ensures { result ≡ form_of «record».now }
 {
@@ -283,7 +283,6 @@ pub fn largest_high(part: &[u8]) -> Round
 
 // Stores a high round at a place, and nothing where there is no such place.
 // By an index: with `get_mut` the proof does not close.
-#[tactic(auto, using(crate::proofs::Layouts::put_past))]
 fn put_high(highs: &mut [u64], place: usize, round: u64)
     ensures { highs.new ≡ set highs.old place round }
 {
@@ -293,7 +292,7 @@ fn put_high(highs: &mut [u64], place: usize, round: u64)
 }
 
 // The high round of each place, and 0 for one that has no entry.
-#[tactic(auto, using(crate::proofs::Layouts::highs_more), unfolding(crate::specs::Layout::highs_of, crate::specs::Layout::highs_up_to))]
+#[tactic(auto, unfolding(crate::specs::Layout::highs_of, crate::specs::Layout::highs_up_to))]
 pub fn highs_of(highs: &mut [u64], part: &[u8])
     requires { length highs.old ≡ signers_max }
     ensures { highs.new ≡ highs_of part.now }
@@ -330,7 +329,7 @@ fn tc_rounds(record: &[u8], at: usize) -> u64
     u64_at(record, at).max(high)
 }
 
-#[tactic(auto, using(crate::proofs::Limits::block_ways))]
+#[tactic(auto, using(crate::proofs::Bounds::any_largest), unfolding(crate::specs::Limits::limit_of, crate::specs::Limits::bounded, crate::specs::Limits::block_counts, crate::specs::Limits::block_rounds, crate::specs::Layout::largest))]
 fn block_limit(record: &[u8]) -> u16
     ensures { result ≡ limit_of «record».now Kind.Propose }
 {
@@ -353,7 +352,7 @@ fn has_empty_tc(record: &[u8]) -> bool
 }
 
 // 32, 20 or 19 for a record that passes a limit, in this order, and else 0.
-#[tactic(auto, using(crate::proofs::Limits::limit_ways))]
+#[tactic(auto, using(crate::proofs::Bounds::any_largest), unfolding(crate::specs::Limits::limit_of, crate::specs::Limits::bounded, crate::specs::Layout::largest))]
 pub fn limit_of(record: &[u8], kind: Kind) -> u16
     ensures { result ≡ limit_of «record».now kind }
 {
