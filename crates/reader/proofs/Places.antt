@@ -1,7 +1,5 @@
--- Laws of a place in the trace bytes, for the ways out of `place` and for callers.
---     front-here      the front of the bytes from a place on
---     next-ends, next-cut, next_small, next-record     the place behind each kind of front
---     small-fits, record-fits     which lies in the trace
+-- Laws of a place in the trace bytes.
+--     small-fits, record-fits     the place behind a front lies in the trace
 --     next_fits       the place behind a front is a place of the trace
 --     next-rest       the bytes behind a front are the unread rest of the trace
 --     front-part      a place of the first have bytes
@@ -13,37 +11,22 @@ use native.Mathlib.Nat.{le_refl}
 use native.Mathlib.Omega.{arith}
 use lib.ListN.{length, take, drop, length-drop, drop_of_length-le}
 use lib.Seq.{drop-drop}
-use Rattle.trace.specs.Record.{split_of, rest_of}
+use Rattle.trace.specs.Record.{rest_of}
 use Rattle.trace.specs.declared.record.Front.{Front}
 use Rattle.trace.specs.declared.record.Front.TheVariants.{End, Cut, Small, Record}
 use Rattle.trace.proofs.Parts.{drop-take}
 use Rattle.trace.proofs.FrontLaws.{front-bounds}
 use Rattle.reader.specs.Place.{front_at, behind, next_at, front_in}
 
--- ---- the ways out
-
-pub front-here : (s : List ℕ) (at : ℕ) {d : List ℕ} {f : Front} → d ≡ drop at s → f ≡ split_of d → f ≡ front_at s at
-front-here s at p e = rw (← p) e
+-- ---- what the code needs
 
 module _ (s : List ℕ) (at : ℕ) {f : Front} (e : f ≡ front_at s at) where
-  pub next-ends : f ≡ End → length s ≡ next_at s at
-  next-ends q = rw (← e, q)
-
-  pub next-cut : f ≡ Cut → length s ≡ next_at s at
-  next-cut q = rw (← e, q)
-
   module _ {end : ℕ} where
-    pub next_small : f ≡ Small end → at + end ≡ next_at s at
-    next_small q = rw (← e, q)
-
     pub small-fits : f ≡ Small end → at + end ≤ length s
     small-fits q =
         let l : length (drop at s) ≡ length s - at = length-drop at s in
         let b = front-bounds (drop at s) (Small end) (sym q ∙ e) in
         omega (arith, b, l)
-
-    pub next-record : {kind : ℕ} → f ≡ Record kind end → at + end ≡ next_at s at
-    next-record q = rw (← e, q)
 
     pub record-fits : {kind : ℕ} → f ≡ Record kind end → at + end ≤ length s
     record-fits {kind} q =
@@ -53,6 +36,10 @@ module _ (s : List ℕ) (at : ℕ) {f : Front} (e : f ≡ front_at s at) where
 
 pub front-part : (s : List ℕ) (at have : ℕ) {t : List ℕ} {f : Front} → t ≡ take have s → f ≡ front_at t at → f ≡ front_in s at have
 front-part s at have p e = rw (p, drop-take at have s) at e
+
+pub ruleset next_ways = (small-fits, record-fits)
+
+pub ruleset part_ways = (front-part)
 
 -- ---- what callers need
 

@@ -13,14 +13,13 @@ pub fn front_at(src: &[u8], at: usize) -> Front
 }
 
 // Where the next record starts: at the end of the trace where the run ends.
+#[tactic(auto, using(crate::proofs::Places::next_ways))]
 pub fn next_at(src: &[u8], at: usize) -> usize
     ensures { result ≡ next_at src.now at }
 {
     match front_at(src, at) {
-        Front::End => src.len(),
-        Front::Cut => src.len(),
-        Front::Small { end } => at + end,
-        Front::Record { kind: _, end } => at + end,
+        Front::End | Front::Cut => src.len(),
+        Front::Small { end } | Front::Record { kind: _, end } => at + end,
     }
 }
 
@@ -28,5 +27,5 @@ pub fn next_at(src: &[u8], at: usize) -> usize
 pub fn left_at(src: &[u8], at: usize) -> usize
     ensures { result ≡ left_at src.now at }
 {
-    if at < src.len() { src.len() - at } else { 0 }
+    src.len().saturating_sub(at)
 }

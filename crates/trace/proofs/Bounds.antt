@@ -1,11 +1,11 @@
 -- The largest of some numbers, and whether one is above a bound. Assumes nothing.
 use mathlib.Core.Path.{◌≡◌, refl, sym, ◌∙◌}
-use mathlib.Core.Bool.{Bool, true, false, not, cond}
+use mathlib.Core.Bool.{Bool, true, false, cond}
 use mathlib.Core.List.{List, [], ◌∷◌}
 use Prim.Native.Nat.{ℕ, max, ◌≤◌, ◌<◌}
 use native.Mathlib.Omega.{arith}
-use lib.Dec.{ltb, leb}
-use borrow.Author.Tests.{lt-ltb, le-ltb, ltb-false, ltb-true, leb-true, leb-false}
+use lib.Dec.{ltb}
+use borrow.Author.Tests.{lt-ltb, le-ltb, ltb-false, ltb-true}
 use Rattle.trace.specs.Layout.{largest}
 use Rattle.trace.specs.Form.{any_above}
 
@@ -19,10 +19,10 @@ above-max true m x y e = let h : m < x = ltb-true m x (sym e) in sym (lt-ltb m (
 above-max false m x y e = above-second (ltb m y) m x y (ltb-false m x (sym e)) refl
 
 -- a number of the list is above the bound if the largest is
-pub any-largest : (m : ℕ) (xs : List ℕ) → any_above m xs ≡ ltb m (largest xs)
+pub any_largest : (m : ℕ) (xs : List ℕ) → any_above m xs ≡ ltb m (largest xs)
 unfolding any_above largest
-any-largest m [] = sym (le-ltb m 0 (omega arith))
-any-largest m (x ∷ xs) = rw (any-largest m xs) (above-max (ltb m x) m x (largest xs) refl)
+any_largest m [] = sym (le-ltb m 0 (omega arith))
+any_largest m (x ∷ xs) = rw (any_largest m xs) (above-max (ltb m x) m x (largest xs) refl)
 
 module _ (m : ℕ) where
   -- no number is above: each is within
@@ -35,26 +35,7 @@ module _ (m : ℕ) where
       parts false p q = (ltb-false m x (sym p), q)
 
   pub largest-within : (xs : List ℕ) → any_above m xs ≡ false → largest xs ≤ m
-  largest-within xs e = ltb-false m (largest xs) (sym (any-largest m xs) ∙ e)
-
-  -- a number alone, tested the other way round
-  pub one-within : (x : ℕ) → leb x m ≡ not (any_above m (x ∷ []))
-  unfolding any_above
-  one-within x = by-test (leb x m) refl
-    where
-      by-test : (t : Bool) → t ≡ leb x m → t ≡ not (cond (ltb m x) true false)
-      by-test true p = let h : x ≤ m = leb-true x m (sym p) in rw (le-ltb m x h)
-      by-test false p = let h : m < x = leb-false x m (sym p) in rw (lt-ltb m x h)
-
-  -- one number more, in front
-  module _ {x : ℕ} (xs : List ℕ) where
-    pub any_here : m < x → any_above m (x ∷ xs) ≡ true
-    unfolding any_above
-    any_here h = rw (lt-ltb _ _ h)
-
-    pub any-later : x ≤ m → any_above m (x ∷ xs) ≡ any_above m xs
-    unfolding any_above
-    any-later h = rw (le-ltb _ _ h)
+  largest-within xs e = ltb-false m (largest xs) (sym (any_largest m xs) ∙ e)
 
 pub largest-one : (x : ℕ) → largest (x ∷ []) ≡ x
 unfolding largest

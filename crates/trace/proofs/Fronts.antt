@@ -1,6 +1,4 @@
--- The front of a trace by cases: one law for each way out of `record::split`, its premises the tests on that way; where the next record
--- starts; and that more bytes after a whole record change nothing.
--- Assumes nothing.
+-- The front of a trace by cases: one law for each, its premises the tests. Assumes nothing.
 use mathlib.Core.Path.{◌≡◌}
 use mathlib.Core.List.{List}
 use Prim.Native.Nat.{ℕ, ◌+◌, ◌≤◌, ◌<◌}

@@ -1,18 +1,17 @@
--- Parts of a list, single bytes, and numbers and hashes read in a part or before more bytes. Assumes nothing.
+-- Parts of a list, and numbers and hashes read in a part or before more bytes. Assumes nothing.
 use mathlib.Core.Path.{◌≡◌, refl, sym, ◌∙◌}
 use mathlib.Core.Bool.{Bool, true, false}
 use mathlib.Core.List.{List, [], ◌∷◌, ◌++◌}
 use Prim.Native.Nat.{ℕ, zero, suc, ◌+◌, ◌-◌, ◌≤◌, ◌<◌}
-use native.Mathlib.Nat.{le_of_eq, le_of_lt}
+use native.Mathlib.Nat.{le_of_eq}
 use native.Mathlib.Omega.{arith}
-use lib.ListN.{length, length-append, take, drop, get_or, length-drop, length-take, drop_of_length-le, get_or-eq_default}
+use lib.ListN.{length, length-append, take, drop, length-drop, length-take}
 use lib.Seq.{take-append-le, drop-append-le, drop-drop, take_all, take-take, take-nil}
 use lib.Dec.{leb}
 use borrow.Author.Tests.{le-leb, lt-leb, leb-true, leb-false}
 use Rattle.certificates.specs.Num.{le, num_at, hash_in, hash_at}
 use Rattle.certificates.specs.Numbers.{zero_hash}
 use Rattle.certificates.proofs.Bytes.{num-in, num-out, hash-in, hash-out}
-use Rattle.trace.specs.Part.{between}
 
 -- an order between two numbers, by cases
 by-test : {C : Type 0} (t : Bool) (a b : ℕ) → t ≡ leb a b → (a ≤ b → C) → (b < a → C) → C
@@ -22,29 +21,10 @@ by-test false a b e f g = g (leb-false a b (sym e))
 pub by_order : {C : Type 0} (a b : ℕ) → (a ≤ b → C) → (b < a → C) → C
 by_order a b f g = by-test (leb a b) a b refl f g
 
--- ---- parts and bytes
+-- ---- parts
 
-module _ (s : List ℕ) where
-  pub all_after : (n : ℕ) → take (length s - n) (drop n s) ≡ drop n s
-  all_after n = take_all _ _ (le_of_eq (length-drop n s))
-
-  pub none_after : (n : ℕ) → length s < n → [] ≡ drop n s
-  none_after n h = sym (drop_of_length-le s (le_of_lt h))
-
-  pub first_part : (n : ℕ) → take (n - 0) s ≡ take n s
-  first_part n = let z : n - 0 ≡ n = omega arith in rw z
-
-  pub first-all : (n : ℕ) → length s < n → s ≡ take n s
-  first-all n h = sym (take_all n s (le_of_lt h))
-
-  pub between_none : (a e : ℕ) → e < a → [] ≡ between a e s
-  between_none a e h = let z : e - a ≡ 0 = omega arith in rw z
-
-  pub between-over : (a e : ℕ) → length s < e → drop a s ≡ between a e s
-  between-over a e h = let n : length (drop a s) ≤ e - a = simp length-drop (omega arith) in sym (take_all _ _ n)
-
-  pub byte_past : (at : ℕ) → length s ≤ at → 0 ≡ get_or s at 0
-  byte_past at h = sym (get_or-eq_default s 0 h)
+pub all_after : (s : List ℕ) (n : ℕ) → take (length s - n) (drop n s) ≡ drop n s
+all_after s n = take_all _ _ (le_of_eq (length-drop n s))
 
 pub drop-take : (i n : ℕ) (s : List ℕ) → drop i (take n s) ≡ take (n - i) (drop i s)
 drop-take zero n s = let z : n - 0 ≡ n = omega arith in rw z
@@ -66,6 +46,9 @@ num-drop w s a i p =
     by_order ((a + i) + w) (length s)
     (λ h. let l : i + w ≤ length (drop a s) = rw length-drop (omega arith) in rw (num-inside w (drop a s) i l, num-inside w s (a + i) h, drop-drop))
     (λ h. let l : length (drop a s) < i + w = rw length-drop (omega arith) in num-past w (drop a s) i l ∙ sym (num-past w s (a + i) h))
+
+pub count_after : (s : List ℕ) (at i : ℕ) → num_at 2 (drop at s) i ≡ num_at 2 s (at + i)
+count_after s at i = num-drop 2 s at i (omega arith)
 
 pub num-take : (w : ℕ) (s : List ℕ) (n i : ℕ) → i + w ≤ n → num_at w (take n s) i ≡ num_at w s i
 num-take w s n i p =

@@ -7,6 +7,7 @@
 --     payloads_of r k     its payload verdict, if any
 --     any_above m xs      whether one of some numbers is above m
 --     are_marks r         whether the verdicts and the flag of a block are 0 or 1
+--     in_range r k        whether the verdicts and flags of a record of the kind are in range
 --     is_formed r k       whether a record has the form of the kind
 --     form_if r k         the kind, where there is one and the record has its form
 --     form_of r           the kind of a record that has the form of its kind, and None for any other
@@ -81,9 +82,11 @@ any_above m (x ∷ xs) = cond (ltb m x) true (any_above m xs)
 abbrev pub are_marks : List ℕ → Bool
 are_marks r = not (any_above 1 (block_marks r))
 
+abbrev pub in_range : List ℕ → Kind → Bool
+in_range r k = cond (any_above 1 (marks_of r k)) false (not (any_above 2 (payloads_of r k)))
+
 unfoldable pub is_formed : List ℕ → Kind → Bool
-is_formed r k =
-    cond (eqb (length r) (size_of r k)) (cond (any_above 1 (marks_of r k)) false (not (any_above 2 (payloads_of r k)))) false
+is_formed r k = cond (eqb (length r) (size_of r k)) (in_range r k) false
 
 abbrev pub form_if : List ℕ → Option Kind → Option Kind
 form_if r None = None

@@ -1,5 +1,6 @@
 -- 01, The trace form: "Parts." A record here is what follows the length: kind 2, then the body. What a record does not have reads as 0.
 --     signers_max                                         the most signers of a list
+--     count_of, size_by, part_of c r at                   of a certificate that lies as c says and starts at a place of the record r: its count, how long it is, itself
 --     qc_round, qc_verdict, qc_count, qc_size, qc_part r at  of the QC that starts at a place of the record r
 --     tc_round, tc_verdict, tc_count, tc_size, tc_part r at  of the TC that starts there
 --     place_in, high_in t i                               place and high round of entry i of the TC t
@@ -15,10 +16,21 @@
 use Rattle.std.specs.Prelude.{ℕ, zero, suc, max, ◌+◌, ◌-◌, ◌*◌, cond, List, [], ◌∷◌, length, get_or, take, drop, set, replicate, eqb}
 use Rattle.certificates.specs.Config as limits
 use Rattle.certificates.specs.Num.{num_at}
+use Rattle.trace.specs.declared.events.Certificate.{Certificate}
 
 -- "a signer list above 64"
 abbrev pub signers_max : ℕ
 signers_max = limits.members_max
+
+-- a certificate that starts at a place: its count, how long it is by that, and itself
+abbrev pub count_of : Certificate → List ℕ → ℕ → ℕ
+count_of c r at = num_at 2 r (at + c.count)
+
+abbrev pub size_by : Certificate → List ℕ → ℕ → ℕ
+size_by c r at = (c.count + 2) + c.entry * count_of c r at
+
+abbrev pub part_of : Certificate → List ℕ → ℕ → List ℕ
+part_of c r at = take (size_by c r at) (drop at r)
 
 -- "QC: hash 32, round 8, verdict 1, count 2, places 2 each."
 abbrev pub qc_round : List ℕ → ℕ → ℕ

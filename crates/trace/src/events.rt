@@ -11,10 +11,10 @@
 //   TC                TC 2
 //   QC                hash 0, round 32, verdict 40, count 41, places of 2 from 43
 //   TC                round 0, verdict 8, count 9, entries of 10 from 11: place 0, high round 2
-ghost use Rattle.std.specs.Prelude.{◌≡◌, max, ◌^◌, ◌<◌, length, drop, set, replicate};
-ghost use Rattle.trace.specs.Layout.{signers_max, qc_part, tc_part, flag_at, tc_at, block_end, payload_of, tc_rounds, largest, largest_high, highs_of};
-ghost use Rattle.trace.specs.Form.{Numbered, is_formed, form_of, are_marks};
-ghost use Rattle.trace.specs.Limits.{bounded, limit_of};
+ghost use Rattle.std.specs.Prelude.{◌≡◌, ◌^◌, ◌<◌, length, drop, set, MatchOption};
+ghost use Rattle.trace.specs.Layout.{signers_max, count_of, size_by, part_of, qc_part, tc_part, flag_at, tc_at, block_end, payload_of, tc_rounds, largest, largest_high, highs_of};
+ghost use Rattle.trace.specs.Form.{Numbered, size_of, in_range, is_formed, form_of, are_marks};
+ghost use Rattle.trace.specs.Limits.{empty_tc, bounded, limit_of};
 ghost use Rattle.trace.specs.Fields.{vote_of, timeout_of, block_of, tc_round_of, tc_high_of};
 
 use crate::part::{after, byte_at, first};
@@ -108,166 +108,155 @@ pub fn body_of(record: &[u8]) -> &[u8]
     after(record, 2)
 }
 
-// The certificate that starts at a place, as it lies: as long as its count says, and cut where the
-// record ends.
+// How a certificate lies: where its count stands, and how long each entry behind the count is.
+#[derive(Clone, Copy)]
+struct Certificate {
+    count: u8,
+    entry: u8,
+}
+
+const QC: Certificate = Certificate {
+    count: 41,
+    entry: 2,
+};
+
+const TC: Certificate = Certificate {
+    count: 9,
+    entry: 10,
+};
+
+impl Certificate {
+    // The count of the certificate that starts at a place of the record.
+    #[tactic(auto, using(crate::proofs::Parts::count_after))]
+    fn count_at(self, record: &[u8], at: usize) -> u16
+        ensures { result ≡ count_of self «record».now at }
+    {
+        u16_at(after(record, at), usize::from(self.count))
+    }
+
+    // How long it is, by its count.
+    fn size_at(self, record: &[u8], at: usize) -> usize
+        ensures { (result ≡ size_by self «record».now at) × (result < 2 ^ 32) }
+    {
+        let n = usize::from(self.count_at(record, at));
+        usize::from(self.count) + 2 + usize::from(self.entry) * n
+    }
+
+    // The certificate, as it lies: cut where the record ends.
+    fn part_at(self, record: &[u8], at: usize) -> &[u8]
+        ensures { result.now ≡ part_of self «record».now at }
+    {
+        first(after(record, at), self.size_at(record, at))
+    }
+}
+
+#[tactic(auto, unfolding(crate::specs::Layout::qc_part))]
 pub fn qc_part(record: &[u8], at: usize) -> &[u8]
     ensures { result.now ≡ qc_part «record».now at }
 {
-    let tail = after(record, at);
-    let n = u16_at(tail, 41) as usize;
-    first(tail, 43 + 2 * n)
+    QC.part_at(record, at)
 }
 
+#[tactic(auto, unfolding(crate::specs::Layout::tc_part))]
 pub fn tc_part(record: &[u8], at: usize) -> &[u8]
     ensures { result.now ≡ tc_part «record».now at }
 {
-    let tail = after(record, at);
-    let n = u16_at(tail, 9) as usize;
-    first(tail, 11 + 10 * n)
+    TC.part_at(record, at)
 }
 
 // Where the TC flag of a block stands: right after the QC.
+#[tactic(auto, unfolding(crate::specs::Layout::flag_at))]
 fn flag_at(record: &[u8]) -> usize
-    ensures { (result ≡ flag_at «record».now) × (result < 2 ^ 32) }
+    ensures { (result ≡ flag_at «record».now) × (result < 2 ^ 33) }
 {
-    let n = u16_at(record, 86) as usize;
-    88 + 2 * n
+    BLOCK_QC + QC.size_at(record, BLOCK_QC)
 }
 
-// Where the TC of a block starts: right after the flag, and 0 where there is none.
-fn tc_at(record: &[u8]) -> usize
-    ensures { (result ≡ tc_at «record».now) × (result < 2 ^ 33) }
+// Where the TC of a block starts, if it has one: right after the flag.
+#[tactic(auto, unfolding(crate::specs::Layout::tc_at))]
+fn tc_at(record: &[u8]) -> Option<usize>
+    ensures { MatchOption result (tc_at «record».now ≡ 0) (λ tc. (tc ≡ tc_at «record».now) × (0 < tc) × (tc < 2 ^ 34)) }
 {
     let flag = flag_at(record);
     if byte_at(record, flag) == 1 {
-        flag + 1
+        Some(flag + 1)
     } else {
-        0
+        None
     }
 }
 
 // Where a block ends.
+#[tactic(auto, unfolding(crate::specs::Layout::block_end))]
 fn block_end(record: &[u8]) -> usize
-    ensures { (result ≡ block_end «record».now) × (result < 2 ^ 34) }
+    ensures { (result ≡ block_end «record».now) × (result < 2 ^ 35) }
 {
-    let tc = tc_at(record);
-    if tc == 0 {
-        return flag_at(record) + 1;
+    match tc_at(record) {
+        Some(tc) => tc + TC.size_at(record, tc),
+        None => flag_at(record) + 1,
     }
-    let n = u16_at(record, tc + 9) as usize;
-    tc + (11 + 10 * n)
 }
 
 // PROPOSE's last byte: 0 absent, 1 ready, 2 invalid.
+#[tactic(auto, unfolding(crate::specs::Layout::payload_of))]
 pub fn payload_of(record: &[u8]) -> u8
     ensures { result ≡ payload_of «record».now }
 {
-    let n = record.len();
-    if n < 1 {
-        return 0;
-    }
-    byte_at(record, n - 1)
+    record.last().copied().unwrap_or(0)
 }
 
 // ---- the form of each kind: the length that the counts call for, and verdicts and flags in range
 
-fn start_ok(record: &[u8]) -> bool
-    ensures { result ≡ is_formed «record».now Kind.Start }
+// How many bytes a record of a kind has, by its counts.
+fn size_of(record: &[u8], kind: Kind) -> usize
+    ensures { result ≡ size_of «record».now kind }
 {
-    let n = u16_at(record, 2) as usize;
-    record.len() == 6 + 36 * n
-}
-
-fn vote_ok(record: &[u8]) -> bool
-    ensures { result ≡ is_formed «record».now Kind.Vote }
-{
-    if record.len() != 45 {
-        return false;
+    match kind {
+        Kind::Start => 6 + 36 * usize::from(u16_at(record, 2)),
+        Kind::Propose => block_end(record) + 1,
+        Kind::Vote => 45,
+        Kind::Timeout => TIMEOUT_QC + QC.size_at(record, TIMEOUT_QC),
+        Kind::Tc => TC_BODY + TC.size_at(record, TC_BODY),
+        Kind::Loopback => block_end(record),
+        Kind::Tick => 2,
     }
-    byte_at(record, 44) <= 1
-}
-
-fn timeout_ok(record: &[u8]) -> bool
-    ensures { result ≡ is_formed «record».now Kind.Timeout }
-{
-    let n = u16_at(record, 54) as usize;
-    if record.len() != 56 + 2 * n {
-        return false;
-    }
-    if 1 < byte_at(record, 12) {
-        return false;
-    }
-    byte_at(record, 53) <= 1
-}
-
-fn tc_ok(record: &[u8]) -> bool
-    ensures { result ≡ is_formed «record».now Kind.Tc }
-{
-    let n = u16_at(record, 11) as usize;
-    if record.len() != 13 + 10 * n {
-        return false;
-    }
-    byte_at(record, 10) <= 1
 }
 
 // Whether the verdicts and the flag of a block are 0 or 1.
-fn marks_ok(record: &[u8]) -> bool
+#[tactic(auto, unfolding(crate::specs::Form::block_marks, crate::specs::Form::any_above))]
+fn are_marks(record: &[u8]) -> bool
     ensures { result ≡ are_marks «record».now }
 {
-    if 1 < byte_at(record, 44) {
-        return false;
-    }
-    if 1 < byte_at(record, 85) {
-        return false;
-    }
-    let flag = flag_at(record);
-    if 1 < byte_at(record, flag) {
-        return false;
-    }
-    let tc = tc_at(record);
-    if tc == 0 {
-        return true;
-    }
-    byte_at(record, tc + 8) <= 1
+    byte_at(record, 44) <= 1
+        && byte_at(record, 85) <= 1
+        && byte_at(record, flag_at(record)) <= 1
+        && tc_at(record).is_none_or(|tc| byte_at(record, tc + 8) <= 1)
 }
 
-fn propose_ok(record: &[u8]) -> bool
-    ensures { result ≡ is_formed «record».now Kind.Propose }
+// Whether the verdicts and flags of a record of a kind are in range.
+#[tactic(auto, unfolding(crate::specs::Form::any_above))]
+fn in_range(record: &[u8], kind: Kind) -> bool
+    ensures { result ≡ in_range «record».now kind }
 {
-    if record.len() != block_end(record) + 1 {
-        return false;
+    match kind {
+        Kind::Start | Kind::Tick => true,
+        Kind::Propose => are_marks(record) && payload_of(record) <= 2,
+        Kind::Vote => byte_at(record, 44) <= 1,
+        Kind::Timeout => byte_at(record, 12) <= 1 && byte_at(record, 53) <= 1,
+        Kind::Tc => byte_at(record, 10) <= 1,
+        Kind::Loopback => are_marks(record),
     }
-    if marks_ok(record) {
-        return payload_of(record) <= 2;
-    }
-    false
-}
-
-fn loopback_ok(record: &[u8]) -> bool
-    ensures { result ≡ is_formed «record».now Kind.Loopback }
-{
-    if record.len() != block_end(record) {
-        return false;
-    }
-    marks_ok(record)
 }
 
 // Whether a record has the form of a kind.
+#[tactic(auto, unfolding(crate::specs::Form::is_formed))]
 fn is_formed(record: &[u8], kind: Kind) -> bool
     ensures { result ≡ is_formed «record».now kind }
 {
-    match kind {
-        Kind::Start => start_ok(record),
-        Kind::Propose => propose_ok(record),
-        Kind::Vote => vote_ok(record),
-        Kind::Timeout => timeout_ok(record),
-        Kind::Tc => tc_ok(record),
-        Kind::Loopback => loopback_ok(record),
-        Kind::Tick => record.len() == 2,
-    }
+    record.len() == size_of(record, kind) && in_range(record, kind)
 }
 
 // The kind of a record that has the form of its kind, and None for any other.
+#[tactic(auto, unfolding(crate::specs::Form::form_of))]
 pub fn form_of(record: &[u8]) -> Option<Kind>
     ensures { result ≡ form_of «record».now }
 {
@@ -280,119 +269,90 @@ pub fn form_of(record: &[u8]) -> Option<Kind>
 
 // ---- the entries of a TC: place 2 and high round 8 each, from 11 on
 
-fn higher(a: u64, b: u64) -> u64
-    ensures { result ≡ max a b }
-{
-    if a < b { b } else { a }
-}
-
-fn longer(a: u16, b: u16) -> u16
-    ensures { result ≡ max a b }
-{
-    if a < b { b } else { a }
-}
-
 // The largest high round over the entries of a TC: 0 where it has none.
+#[tactic(auto, unfolding(crate::specs::Layout::largest_high, crate::specs::Layout::highs_in, crate::specs::Layout::largest))]
 pub fn largest_high(part: &[u8]) -> Round
     ensures { result.0 ≡ largest_high part.now }
 {
-    let n = u16_at(part, 9) as usize;
-    let mut high = 0u64;
-    let mut i = 0;
-    while i < n {
-        high = higher(u64_at(part, 13 + 10 * i), high);
-        i += 1;
+    let mut high = 0;
+    for i in 0..usize::from(TC.count_at(part, 0)) {
+        high = u64_at(part, 13 + 10 * i).max(high);
     }
     Round(high)
 }
 
-fn clear(highs: &mut [u64])
-    ensures { highs.new ≡ replicate (length highs.old) 0 }
-{
-    let mut i = 0;
-    while i < highs.len() {
-        highs[i] = 0;
-        i += 1;
-    }
-}
-
 // Stores a high round at a place, and nothing where there is no such place.
-fn put_high(highs: &mut [u64], p: usize, high: u64)
-    ensures { highs.new ≡ set highs.old p high }
+// By an index: with `get_mut` the proof does not close.
+fn put_high(highs: &mut [u64], place: usize, round: u64)
+    ensures { highs.new ≡ set highs.old place round }
 {
-    if p < highs.len() {
-        highs[p] = high;
+    if place < highs.len() {
+        highs[place] = round;
     }
 }
 
 // The high round of each place, and 0 for one that has no entry.
+#[tactic(auto, unfolding(crate::specs::Layout::highs_of, crate::specs::Layout::highs_up_to))]
 pub fn highs_of(highs: &mut [u64], part: &[u8])
     requires { length highs.old ≡ signers_max }
     ensures { highs.new ≡ highs_of part.now }
 {
-    clear(highs);
-    let n = u16_at(part, 9) as usize;
-    let mut i = 0;
-    while i < n {
-        let p = u16_at(part, 11 + 10 * i) as usize;
-        let high = u64_at(part, 13 + 10 * i);
-        put_high(highs, p, high);
-        i += 1;
+    highs.fill(0);
+    for i in 0..usize::from(TC.count_at(part, 0)) {
+        let place = usize::from(u16_at(part, 11 + 10 * i));
+        put_high(highs, place, u64_at(part, 13 + 10 * i));
     }
 }
 
 // ---- limits
 
 // 20 for a list that is too long, else 19 for a round that is too high, else 0.
+#[tactic(auto, unfolding(crate::specs::Limits::bounded))]
 fn bound(count: u16, round: u64) -> u16
     ensures { result ≡ bounded count round }
 {
     if SIGNERS_MAX < count {
-        return LIST_TOO_LONG;
+        LIST_TOO_LONG
+    } else if ROUND_MAX < round {
+        ROUND_TOO_HIGH
+    } else {
+        0
     }
-    if ROUND_MAX < round {
-        return ROUND_TOO_HIGH;
-    }
-    0
 }
 
 // The highest round of a TC that starts at a place of the record.
+#[tactic(auto, unfolding(crate::specs::Layout::tc_rounds, crate::specs::Layout::largest, crate::specs::Layout::largest_high))]
 fn tc_rounds(record: &[u8], at: usize) -> u64
     ensures { result ≡ largest (tc_rounds «record».now at) }
 {
-    let high = largest_high(tc_part(record, at));
-    higher(u64_at(record, at), high.0)
+    let Round(high) = largest_high(tc_part(record, at));
+    u64_at(record, at).max(high)
 }
 
+#[tactic(auto, using(crate::proofs::Bounds::any_largest), unfolding(crate::specs::Limits::limit_of, crate::specs::Limits::bounded, crate::specs::Limits::block_counts, crate::specs::Limits::block_rounds, crate::specs::Layout::largest))]
 fn block_limit(record: &[u8]) -> u16
     ensures { result ≡ limit_of «record».now Kind.Propose }
 {
-    let count = u16_at(record, 86);
-    let round = higher(u64_at(record, 36), u64_at(record, 77));
-    let tc = tc_at(record);
-    if tc == 0 {
-        return bound(count, round);
+    let count = QC.count_at(record, BLOCK_QC);
+    let round = u64_at(record, 36).max(u64_at(record, 77));
+    match tc_at(record) {
+        Some(tc) => bound(
+            count.max(TC.count_at(record, tc)),
+            round.max(tc_rounds(record, tc)),
+        ),
+        None => bound(count, round),
     }
-    bound(
-        longer(count, u16_at(record, tc + 9)),
-        higher(round, tc_rounds(record, tc)),
-    )
 }
 
-fn loopback_limit(record: &[u8]) -> u16
-    ensures { result ≡ limit_of «record».now Kind.Loopback }
+// Whether a LOOPBACK has a TC, and it lists no one.
+fn has_empty_tc(record: &[u8]) -> bool
+    ensures { result ≡ empty_tc «record».now Kind.Loopback }
 {
-    let tc = tc_at(record);
-    if tc == 0 {
-        return block_limit(record);
-    }
-    if u16_at(record, tc + 9) == 0 {
-        return EMPTY_TC;
-    }
-    block_limit(record)
+    tc_at(record).is_some_and(|tc| TC.count_at(record, tc) == 0)
 }
 
 // 32, 20 or 19 for a record that passes a limit, in this order, and else 0.
+#[tactic(auto, using(crate::proofs::Bounds::any_largest), unfolding(crate::specs::Limits::limit_of, crate::specs::Limits::bounded, crate::specs::Layout::largest))]
 pub fn limit_of(record: &[u8], kind: Kind) -> u16
     ensures { result ≡ limit_of «record».now kind }
 {
@@ -401,16 +361,23 @@ pub fn limit_of(record: &[u8], kind: Kind) -> u16
         Kind::Propose => block_limit(record),
         Kind::Vote => bound(0, u64_at(record, 34)),
         Kind::Timeout => bound(
-            u16_at(record, 54),
-            higher(u64_at(record, 2), u64_at(record, 45)),
+            QC.count_at(record, TIMEOUT_QC),
+            u64_at(record, 2).max(u64_at(record, 45)),
         ),
-        Kind::Tc => bound(u16_at(record, 11), tc_rounds(record, TC_BODY)),
-        Kind::Loopback => loopback_limit(record),
+        Kind::Tc => bound(TC.count_at(record, TC_BODY), tc_rounds(record, TC_BODY)),
+        Kind::Loopback => {
+            if has_empty_tc(record) {
+                EMPTY_TC
+            } else {
+                block_limit(record)
+            }
+        }
     }
 }
 
 // ---- fields
 
+#[tactic(auto, unfolding(crate::specs::Fields::vote_of))]
 pub fn vote_of(record: &[u8]) -> Vote
     ensures { result ≡ vote_of «record».now }
 {
@@ -422,6 +389,7 @@ pub fn vote_of(record: &[u8]) -> Vote
     }
 }
 
+#[tactic(auto, unfolding(crate::specs::Fields::timeout_of))]
 pub fn timeout_of(record: &[u8]) -> Timeout
     ensures { result ≡ timeout_of «record».now }
 {
@@ -434,24 +402,7 @@ pub fn timeout_of(record: &[u8]) -> Timeout
     }
 }
 
-fn tc_round_of(record: &[u8], tc: usize) -> Round
-    ensures { result.0 ≡ tc_round_of «record».now tc }
-{
-    if tc == 0 {
-        return Round(0);
-    }
-    Round(u64_at(record, tc))
-}
-
-fn tc_high_of(record: &[u8], tc: usize) -> Round
-    ensures { result.0 ≡ tc_high_of «record».now tc }
-{
-    if tc == 0 {
-        return Round(0);
-    }
-    largest_high(tc_part(record, tc))
-}
-
+#[tactic(auto, unfolding(crate::specs::Fields::block_of, crate::specs::Fields::tc_round_of, crate::specs::Fields::tc_high_of))]
 pub fn block_of(record: &[u8]) -> Block
     ensures { result ≡ block_of «record».now }
 {
@@ -463,8 +414,8 @@ pub fn block_of(record: &[u8]) -> Block
         verdict: byte_at(record, 44),
         qc_hash: hash_at(record, BLOCK_QC),
         qc_round: Round(u64_at(record, 77)),
-        tc,
-        tc_round: tc_round_of(record, tc),
-        tc_high: tc_high_of(record, tc),
+        tc: tc.unwrap_or(0),
+        tc_round: tc.map_or(Round(0), |at| Round(u64_at(record, at))),
+        tc_high: tc.map_or(Round(0), |at| largest_high(tc_part(record, at))),
     }
 }

@@ -9,7 +9,7 @@ use certificates::num::u16_at;
 pub const RECORD_MAX: usize = 4096;
 
 // What stands at the front of a trace.
-#[derive(Clone, Copy)]
+#[derive(Clone, Copy, Debug, PartialEq, Eq)]
 pub enum Front {
     // Nothing.
     End,
@@ -21,53 +21,44 @@ pub enum Front {
     Record { kind: u16, end: usize },
 }
 
+#[tactic(auto, unfolding(crate::specs::Record::split_of, crate::specs::Record::framed))]
 pub fn split(trace: &[u8]) -> Front
     ensures { result ≡ split_of trace.now }
 {
-    if trace.len() < 1 {
+    if trace.is_empty() {
         return Front::End;
     }
-    if trace.len() < 2 {
-        return Front::Cut;
-    }
-    let n = u16_at(trace, 0) as usize;
-    if RECORD_MAX < n {
-        return Front::Cut;
-    }
+    let n = usize::from(u16_at(trace, 0));
     let end = n + 2;
-    if trace.len() < end {
-        return Front::Cut;
-    }
-    if n < 2 {
-        return Front::Small { end };
-    }
-    Front::Record {
-        kind: u16_at(trace, 2),
-        end,
+    if trace.len() < 2 || RECORD_MAX < n || trace.len() < end {
+        Front::Cut
+    } else if n < 2 {
+        Front::Small { end }
+    } else {
+        Front::Record {
+            kind: u16_at(trace, 2),
+            end,
+        }
     }
 }
 
 // The record at the front, as it lies in the trace: the kind and the body. Of one too small for a
 // kind, the bytes that there are; nothing where the run ends.
-pub fn record_of<'a>(trace: &'a [u8], front: Front) -> &'a [u8]
+pub fn record_of(trace: &[u8], front: Front) -> &[u8]
     ensures { result.now ≡ record_of front trace.now }
 {
     match front {
-        Front::End => &trace[..0],
-        Front::Cut => &trace[..0],
-        Front::Small { end } => middle(trace, 2, end),
-        Front::Record { kind: _, end } => middle(trace, 2, end),
+        Front::End | Front::Cut => &[],
+        Front::Small { end } | Front::Record { kind: _, end } => middle(trace, 2, end),
     }
 }
 
 // The unread rest of the trace: empty where the run ends.
-pub fn rest<'a>(trace: &'a [u8], front: Front) -> &'a [u8]
+pub fn rest(trace: &[u8], front: Front) -> &[u8]
     ensures { result.now ≡ rest_of front trace.now }
 {
     match front {
-        Front::End => &trace[..0],
-        Front::Cut => &trace[..0],
-        Front::Small { end } => after(trace, end),
-        Front::Record { kind: _, end } => after(trace, end),
+        Front::End | Front::Cut => &[],
+        Front::Small { end } | Front::Record { kind: _, end } => after(trace, end),
     }
 }

@@ -1,12 +1,8 @@
--- `trace::events::largest_high` meets its contract. The loop: `high` is the largest of the first i entries. The measure is what is left of the count.
+-- `trace::events::largest_high` meets its contract. The loop: `high` is the largest of the first i entries.
 -- Assumes nothing.
-use Prim.Native.Nat.{◌-◌, ◌≤◌}
 use mathlib.Core.Path.{◌≡◌}
 use Rattle.trace.specs.Layout.{highs_in, largest}
 use Rattle.trace.proofs.events.largest_high.Given as goal
 
 abbrev pub invariant-loop-i : goal.invariant-loop-i
-invariant-loop-i l = (l.i ≤ l.n) × (l.high ≡ largest (highs_in l.part l.i))
-
-abbrev pub decreases-loop-i : goal.decreases-loop-i
-decreases-loop-i l = l.n - l.i
+invariant-loop-i l = l.high ≡ largest (highs_in l.part l.i)
