@@ -1,5 +1,6 @@
 -- 01, Numbers the host sees, in 01's order.
 --     done .. started_again   the numbers
+--     code r, number a        of a refusal, and of an answer
 --     number_of c quorum      of what a certificate's check found, `quorum` being the number for no quorum
 --     author_number a         of what an author's check found
 --     setup_number s          of what START's check found
@@ -10,6 +11,8 @@ use Rattle.certificates.specs.declared.error.CertificateError.{CertificateError}
 use Rattle.certificates.specs.declared.error.CertificateError.TheVariants.{AuthorityReuse, UnknownAuthority, RequiresQuorum, InvalidSignature, Cut}
 use Rattle.certificates.specs.declared.error.AuthorError.{AuthorError}
 use Rattle.certificates.specs.declared.error.AuthorError.TheVariants as author
+use Rattle.certificates.specs.declared.error.Refusal.{Refusal}
+use Rattle.certificates.specs.declared.error.Refusal.TheVariants as refusal
 
 -- "0 DONE, 1 STALE, 2 WAIT PARENT, 3 WAIT PAYLOAD": not refusals
 abbrev pub done : ℕ
@@ -94,6 +97,34 @@ not_started = 33
 
 abbrev pub started_again : ℕ
 started_again = 34
+
+abbrev pub code : Refusal → ℕ
+code refusal.Stale = stale
+code refusal.WaitParent = wait_parent
+code refusal.WaitPayload = wait_payload
+code refusal.BadRecord = bad_record
+code refusal.BadSetup = bad_setup
+code refusal.NoRoom = no_room
+code refusal.RoundTooHigh = round_too_high
+code refusal.ListTooLong = list_too_long
+code refusal.WrongLeader = wrong_leader
+code refusal.UnknownAuthority = unknown_authority
+code refusal.InvalidSignature = invalid_signature
+code refusal.AuthorityReuse = authority_reuse
+code refusal.QcRequiresQuorum = qc_requires_quorum
+code refusal.TcRequiresQuorum = tc_requires_quorum
+code refusal.InvalidPayload = invalid_payload
+code refusal.TableFull = table_full
+code refusal.TalliesFull = tallies_full
+code refusal.AncestorAbsent = ancestor_absent
+code refusal.RoundNotBelow = round_not_below
+code refusal.EmptyTc = empty_tc
+code refusal.NotStarted = not_started
+code refusal.StartedAgain = started_again
+
+abbrev pub number : Result Unit Refusal → ℕ
+number (Ok u) = done
+number (Err r) = code r
 
 abbrev pub number_of : Result Signers CertificateError → ℕ → ℕ
 number_of (Ok s) quorum = done

@@ -1,9 +1,9 @@
 // What the checks of certificates and of authors refuse, and the numbers that the host sees (01), in 01's
-// order: error.rs became numbers.
-ghost use Rattle.std.specs.Prelude.{◌≡◌};
-ghost use Rattle.certificates.specs.Error.{number_of, author_number, setup_number};
+// order: error.rs.
+ghost use Rattle.std.specs.Prelude.{◌≡◌, Err};
+ghost use Rattle.certificates.specs.Error.{code, number, number_of, author_number};
 
-use crate::numbers::{Place, Signers, Stake};
+use crate::numbers::Place;
 
 // Why a certificate is refused.
 #[derive(Clone, Copy, Debug, PartialEq, Eq)]
@@ -25,93 +25,77 @@ pub enum AuthorError {
     InvalidSignature,
 }
 
-// Not refusals.
-pub const DONE: u16 = 0;
+// Why an event is not done: it is too old, it waits, or it is refused.
+#[derive(Clone, Copy, Debug, PartialEq, Eq)]
+pub enum Refusal {
+    Stale = 1,
+    WaitParent = 2,
+    WaitPayload = 3,
+    // Unknown kind, wrong body length, verdict or flag out of range.
+    BadRecord = 16,
+    BadSetup = 17,
+    // The table or the output is too small, or the table too large.
+    NoRoom = 18,
+    // A round above the limit.
+    RoundTooHigh = 19,
+    // A signer list above the limit.
+    ListTooLong = 20,
+    WrongLeader = 21,
+    UnknownAuthority = 22,
+    InvalidSignature = 23,
+    AuthorityReuse = 24,
+    QcRequiresQuorum = 25,
+    TcRequiresQuorum = 26,
+    InvalidPayload = 27,
+    // A new digest and no empty slot.
+    TableFull = 28,
+    // A new tally and none free.
+    TalliesFull = 29,
+    // The block's b0 or a walked parent is absent.
+    AncestorAbsent = 30,
+    // A walked parent's round is not below its child's.
+    RoundNotBelow = 31,
+    // A LOOPBACK with an empty TC.
+    EmptyTc = 32,
+    NotStarted = 33,
+    StartedAgain = 34,
+}
 
-pub const STALE: u16 = 1;
+// How an event is answered.
+pub type Answer = Result<(), Refusal>;
 
-pub const WAIT_PARENT: u16 = 2;
-
-pub const WAIT_PAYLOAD: u16 = 3;
-
-// Unknown kind, wrong body length, verdict or flag out of range.
-pub const BAD_RECORD: u16 = 16;
-
-pub const BAD_SETUP: u16 = 17;
-
-// The table or the output is too small, or the table too large.
-pub const NO_ROOM: u16 = 18;
-
-// A round above the limit.
-pub const ROUND_TOO_HIGH: u16 = 19;
-
-// A signer list above the limit.
-pub const LIST_TOO_LONG: u16 = 20;
-
-pub const WRONG_LEADER: u16 = 21;
-
-pub const UNKNOWN_AUTHORITY: u16 = 22;
-
-pub const INVALID_SIGNATURE: u16 = 23;
-
-pub const AUTHORITY_REUSE: u16 = 24;
-
-pub const QC_REQUIRES_QUORUM: u16 = 25;
-
-pub const TC_REQUIRES_QUORUM: u16 = 26;
-
-pub const INVALID_PAYLOAD: u16 = 27;
-
-// A new digest and no empty slot.
-pub const TABLE_FULL: u16 = 28;
-
-// A new tally and none free.
-pub const TALLIES_FULL: u16 = 29;
-
-// The block's b0 or a walked parent is absent.
-pub const ANCESTOR_ABSENT: u16 = 30;
-
-// A walked parent's round is not below its child's.
-pub const ROUND_NOT_BELOW: u16 = 31;
-
-// A LOOPBACK with an empty TC.
-pub const EMPTY_TC: u16 = 32;
-
-pub const NOT_STARTED: u16 = 33;
-
-pub const STARTED_AGAIN: u16 = 34;
-
-// The number of what a certificate's check found, where `quorum` is the one for no quorum.
-pub fn number_of(c: Result<Signers, CertificateError>, quorum: u16) -> u16
-    ensures { result ≡ number_of c quorum }
+// The number of an answer: 0 where the event is done.
+pub fn number(answer: Answer) -> u16
+    ensures { result ≡ number answer }
 {
-    match c {
-        Ok(Signers(_)) => DONE,
-        Err(CertificateError::AuthorityReuse(_)) => AUTHORITY_REUSE,
-        Err(CertificateError::UnknownAuthority(_)) => UNKNOWN_AUTHORITY,
-        Err(CertificateError::RequiresQuorum) => quorum,
-        Err(CertificateError::InvalidSignature) => INVALID_SIGNATURE,
-        Err(CertificateError::Cut) => BAD_RECORD,
+    match answer {
+        Ok(()) => 0,
+        Err(refusal) => refusal as u16,
     }
 }
 
-// The number of what an author's check found.
-pub fn author_number(a: Result<Stake, AuthorError>) -> u16
-    ensures { result ≡ author_number a }
-{
-    match a {
-        Ok(Stake(_)) => DONE,
-        Err(AuthorError::UnknownAuthority(_)) => UNKNOWN_AUTHORITY,
-        Err(AuthorError::InvalidSignature) => INVALID_SIGNATURE,
+impl CertificateError {
+    // What the event of a refused certificate is answered, where `quorum` says that it has none.
+    pub fn refusal(self, quorum: Refusal) -> Refusal
+        ensures { code result ≡ number_of (Err self) (code quorum) }
+    {
+        match self {
+            CertificateError::AuthorityReuse(_) => Refusal::AuthorityReuse,
+            CertificateError::UnknownAuthority(_) => Refusal::UnknownAuthority,
+            CertificateError::RequiresQuorum => quorum,
+            CertificateError::InvalidSignature => Refusal::InvalidSignature,
+            CertificateError::Cut => Refusal::BadRecord,
+        }
     }
 }
 
-// The number of what the check of a setup found.
-pub fn setup_number(s: Option<Stake>) -> u16
-    ensures { result ≡ setup_number s }
-{
-    match s {
-        Some(Stake(_)) => DONE,
-        None => BAD_SETUP,
+impl From<AuthorError> for Refusal {
+    ghost from_gives = { λ e r. code r ≡ author_number (Err e) };
+
+    fn from(e: AuthorError) -> Refusal {
+        match e {
+            AuthorError::UnknownAuthority(_) => Refusal::UnknownAuthority,
+            AuthorError::InvalidSignature => Refusal::InvalidSignature,
+        }
     }
 }
