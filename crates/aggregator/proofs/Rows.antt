@@ -13,6 +13,7 @@ use Prim.Native.Nat.{ℕ, zero, suc, ◌+◌, ◌-◌, ◌*◌, ◌%◌, ◌^◌
 use mathlib.Core.Bool.{Bool, true, false, cond}
 use mathlib.Core.List.{List, [], ◌++◌, append_assoc, append-nil}
 use mathlib.Core.Logic.{⊎_elim}
+use Rattle.std.proofs.Common.{Option, Some, None}
 use mathlib.Core.Path.{◌≡◌, refl, ap, sym, ◌∙◌}
 use native.Mathlib.Nat.{zero-mul, suc-mul, add_comm, add-zero, mul-le-mul_right, one-mul, eq-or-lt_of_le}
 use native.Mathlib.Numerals.{add-one}
@@ -22,21 +23,19 @@ use lib.Dec.{lit<}
 use lib.Pow.{shl_exact}
 use lib.ListN.{length, get_or, take, drop, length-append, length-take, length-drop, drop_of_length-le, take-append-drop}
 use lib.Seq.{take-append-add, drop-append-add, get_or-take, get_or-drop, sets, sets-eq, take_at, drop_at, drop-drop, length-take-le}
-use Rattle.aggregator.specs.declared.tallies.Found.{Found}
-use Rattle.aggregator.specs.declared.tallies.Found.TheVariants.{At, Nothing}
 use Rattle.aggregator.specs.Rows.{zeros, row, with_row, lowest, map_rows, FoundAs}
 
 -- ---- a search
 
 -- r, what all n rows give, is what the rows from i on give
-pub record Scanned (p : List ℕ → Bool) (w : ℕ) (v : List ℕ) (n i : ℕ) (r : Found) : Type 0 where
+pub record Scanned (p : List ℕ → Bool) (w : ℕ) (v : List ℕ) (n i : ℕ) (r : Option ℕ) : Type 0 where
   pub rest : r ≡ lowest p w v (n - i) i
 
 pub scan-start : (p : List ℕ → Bool) (w : ℕ) (v : List ℕ) (n : ℕ) → Scanned p w v n 0 (lowest p w v n 0)
 scan-start p w v n = let e : n - 0 ≡ n = omega arith in record { rest = rw e }
 
-module _ {p : List ℕ → Bool} {w : ℕ} {v : List ℕ} {n i : ℕ} {r : Found} (s : Scanned p w v n i r) where
-  pub scan-hit : i < n → p (row w v i) ≡ true → FoundAs r n (At i)
+module _ {p : List ℕ → Bool} {w : ℕ} {v : List ℕ} {n i : ℕ} {r : Option ℕ} (s : Scanned p w v n i r) where
+  pub scan-hit : i < n → p (row w v i) ≡ true → FoundAs r n (Some i)
   scan-hit h e =
       let m : n - i ≡ suc (n - (i + 1)) = omega arith in
       record {
@@ -49,7 +48,7 @@ module _ {p : List ℕ → Bool} {w : ℕ} {v : List ℕ} {n i : ℕ} {r : Found
       let m : n - i ≡ suc (n - (i + 1)) = omega arith in
       record { rest = rw (s.rest, m, e, add-one) }
 
-  pub scan-end : n ≤ i → FoundAs r n Nothing
+  pub scan-end : n ≤ i → FoundAs r n None
   scan-end h =
       let m : n - i ≡ 0 = omega arith in
       record {
@@ -64,41 +63,46 @@ module _ {p : List ℕ → Bool} {w : ℕ} {v : List ℕ} {n i : ℕ} {r : Found
       let k : n - (i + 1) ≡ 0 = omega arith in
       record { rest = rw (s.rest, m, k) }
 
-pub found_below : {f r : Found} {n i : ℕ} → FoundAs f n r → r ≡ At i → i < n
+pub found_below : {f r : Option ℕ} {n i : ℕ} → FoundAs f n r → r ≡ Some i → i < n
 found_below a e = a.below _ e
 
+-- where no row is found there is none
+pub none_found : (r : Option ℕ) → ((i : ℕ) → r ≡ Some i → ⊥) → r ≡ None
+none_found (Some i) h = absurd (h i refl)
+none_found None h = refl
+
 module _ (p : List ℕ → Bool) (w : ℕ) (v : List ℕ) where
-  below-cond : (b : Bool) (k i n : ℕ) (f : Found) → (f ≡ At i → i < suc k + n) → cond b (At k) f ≡ At i → i < k + suc n
+  below-cond : (b : Bool) (k i n : ℕ) (f : Option ℕ) → (f ≡ Some i → i < suc k + n) → cond b (Some k) f ≡ Some i → i < k + suc n
   below-cond true k i n f h e = let z : k ≡ i = cc in omega arith
   below-cond false k i n f h e = omega (arith, h e)
 
   -- what is found is one of the rows
-  pub lowest-below : (n k i : ℕ) → lowest p w v n k ≡ At i → i < k + n
+  pub lowest-below : (n k i : ℕ) → lowest p w v n k ≡ Some i → i < k + n
   lowest-below zero k i e = let z : ◌≡◌ {A = ℕ} 0 1 = cc in omega arith
   lowest-below (suc n) k i e = below-cond (p (row w v k)) k i n (lowest p w v n (suc k)) (lowest-below n (suc k) i) e
 
-  hit : (b : Bool) (k i : ℕ) (f : Found) → b ≡ p (row w v k) → (f ≡ At i → p (row w v i) ≡ true) → cond b (At k) f ≡ At i → p (row w v i) ≡ true
+  hit : (b : Bool) (k i : ℕ) (f : Option ℕ) → b ≡ p (row w v k) → (f ≡ Some i → p (row w v i) ≡ true) → cond b (Some k) f ≡ Some i → p (row w v i) ≡ true
   hit true k i f e h q = let z : k ≡ i = cc in rw (← z) (sym e)
   hit false k i f e h q = h q
 
   -- and passes
-  pub lowest-holds : (n k i : ℕ) → lowest p w v n k ≡ At i → p (row w v i) ≡ true
+  pub lowest-holds : (n k i : ℕ) → lowest p w v n k ≡ Some i → p (row w v i) ≡ true
   lowest-holds zero k i e = absurd (let z : ◌≡◌ {A = ℕ} 0 1 = cc in omega arith)
   lowest-holds (suc n) k i e = hit (p (row w v k)) k i (lowest p w v n (suc k)) refl (lowest-holds n (suc k) i) e
 
-  miss : (b : Bool) (k : ℕ) (f : Found) → cond b (At k) f ≡ Nothing → (b ≡ false) × (f ≡ Nothing)
+  miss : (b : Bool) (k : ℕ) (f : Option ℕ) → cond b (Some k) f ≡ None → (b ≡ false) × (f ≡ None)
   miss true k f q = absurd (let z : ◌≡◌ {A = ℕ} 0 1 = cc in omega arith)
   miss false k f q = (refl, q)
 
   -- where none is found, none passes
-  pub lowest-none : (n k i : ℕ) → lowest p w v n k ≡ Nothing → k ≤ i → i < k + n → p (row w v i) ≡ false
+  pub lowest-none : (n k i : ℕ) → lowest p w v n k ≡ None → k ≤ i → i < k + n → p (row w v i) ≡ false
   lowest-none zero k i e a b = absurd (omega arith)
   lowest-none (suc n) k i e a b =
       let m = miss (p (row w v k)) k (lowest p w v n (suc k)) e in
       ⊎_elim (λ (z : k ≡ i). rw (← z) m.0) (λ (z : k < i). lowest-none n (suc k) i m.1 (omega arith) (omega arith)) (eq-or-lt_of_le a)
 
   -- where none passes, none is found
-  pub none-lowest : (n k : ℕ) → ((i : ℕ) → k ≤ i → i < k + n → p (row w v i) ≡ false) → lowest p w v n k ≡ Nothing
+  pub none-lowest : (n k : ℕ) → ((i : ℕ) → k ≤ i → i < k + n → p (row w v i) ≡ false) → lowest p w v n k ≡ None
   none-lowest zero k h = refl
   none-lowest (suc n) k h = rw (h k (omega arith) (omega arith)) (none-lowest n (suc k) (λ i a b. h i (omega arith) (omega arith)))
 
@@ -116,8 +120,8 @@ pub put_as : (w i : ℕ) (v : List ℕ) {r s : List ℕ} → r ≡ s → put_mid
 put_as w i v {r} e = put-row w i v r ∙ ap (λ (t : List ℕ). with_row w v i t) e
 
 -- a search whose test is of the part
-module _ {p : List ℕ → Bool} {w : ℕ} {v : List ℕ} {n i : ℕ} {r : Found} {b : Bool} (s : Scanned p w v n i r) (h : i < n) (is : b ≡ p (take (i * w + w - i * w) (drop (i * w) v))) where
-  pub part-hit : b ≡ true → FoundAs r n (At i)
+module _ {p : List ℕ → Bool} {w : ℕ} {v : List ℕ} {n i : ℕ} {r : Option ℕ} {b : Bool} (s : Scanned p w v n i r) (h : i < n) (is : b ≡ p (take (i * w + w - i * w) (drop (i * w) v))) where
+  pub part-hit : b ≡ true → FoundAs r n (Some i)
   part-hit e = scan-hit s h (rw (← part-row w i v) (sym is ∙ e))
 
   pub part-miss : b ≡ false → Scanned p w v n (i + 1) r

@@ -13,6 +13,7 @@ use Prim.Native.Nat.{ℕ, zero, suc, ◌+◌, ◌-◌, ◌*◌, ◌≤◌, ◌<�
 use mathlib.Core.Bool.{Bool, true, false, not, cond, ◌||◌}
 use mathlib.Core.List.{List}
 use mathlib.Core.Logic.{⊎_elim}
+use Rattle.std.proofs.Common.{Option, Some, None}
 use mathlib.Core.Path.{◌≡◌, refl, sym, ap, ◌∙◌}
 use native.Mathlib.Nat.{eq-or-lt_of_le}
 use native.Mathlib.Numerals.{add-one}
@@ -26,12 +27,10 @@ use Rattle.certificates.specs.declared.numbers.Hash.{Hash}
 use Rattle.certificates.specs.declared.numbers.Signers.{Signers}
 use Rattle.aggregator.specs.declared.tallies.Added.{Added}
 use Rattle.aggregator.specs.declared.tallies.Added.TheVariants.{NoRoom, Used, Full}
-use Rattle.aggregator.specs.declared.tallies.Found.{Found}
-use Rattle.aggregator.specs.declared.tallies.Found.TheVariants.{At, Nothing}
 use Rattle.aggregator.specs.Rows.{zeros, row, with_row, FoundAs}
 use Rattle.aggregator.specs.Tally.{fields, places, vote_width, timeout_width, used_of, round_of, weight_of, names_of, is_free, is_vote, round_with, of_round, heavy_with, is_heavy, kept, new_vote, new_timeout, has_name, no_high, with_high, with_author, counted, answer_of, AddedAs}
 use Rattle.aggregator.specs.Tallies.{vote_tallies, timeout_tallies, timeouts_length, total_max, find_row, find_free, find_heavy, heavy, any_heavy, Light, joined, dropped, first_of, place_for, opened, table_for, TallyFor, Countable, answer_at, table_at, added, after, vote_added, votes_after, timeout_added, timeouts_after, highs_at, HighsAs}
-use Rattle.aggregator.proofs.Rows.{part-row, put_as, row_first, row_at, row_within, Scanned, scan-start, scan-hit, scan-miss, scan-end, scan-past, lowest-below, lowest-holds, none-lowest, with_row-same, with_row-row, with_row-length, with_row-each, map_rows-row, zeros-row}
+use Rattle.aggregator.proofs.Rows.{none_found, part-row, put_as, row_first, row_at, row_within, Scanned, scan-start, scan-hit, scan-miss, scan-end, scan-past, lowest-below, lowest-holds, none-lowest, with_row-same, with_row-row, with_row-length, with_row-each, map_rows-row, zeros-row}
 use Rattle.aggregator.proofs.TallyLaws.{heavy-under, used-has, answer-some, answer-row, kept-length, kept-used, name-none, Kind, vote-kind, timeout-kind}
 
 -- ---- the searches that look at a tally's numbers where they lie
@@ -49,15 +48,15 @@ module _ (w n : ℕ) (v : List ℕ) where
   unfolding find_heavy
   heavy-start total = row-start (is_heavy total)
 
-module _ {w n i : ℕ} {v : List ℕ} {r : Found} (wide : fields ≤ w) (h : i < n) where
-  pub free-hit : Scanned is_free w v n i r → get_or v (i * w) 0 ≡ 0 → FoundAs r n (At i)
+module _ {w n i : ℕ} {v : List ℕ} {r : Option ℕ} (wide : fields ≤ w) (h : i < n) where
+  pub free-hit : Scanned is_free w v n i r → get_or v (i * w) 0 ≡ 0 → FoundAs r n (Some i)
   free-hit s e = scan-hit s h (eq-eqb _ _ (row_first w i v (omega arith) ∙ e))
 
   pub free-miss : Scanned is_free w v n i r → (get_or v (i * w) 0 ≡ 0 → ⊥) → Scanned is_free w v n (i + 1) r
   free-miss s e = scan-miss s h (ne_eqb _ _ (λ q. e (sym (row_first w i v (omega arith)) ∙ q)))
 
   module _ (round : ℕ) {b : Bool} (s : Scanned (of_round round) w v n i r) (is : b ≡ round_with (get_or v (i * w) 0) (get_or v (i * w + 1) 0) round) where
-    pub of-hit : b ≡ true → FoundAs r n (At i)
+    pub of-hit : b ≡ true → FoundAs r n (Some i)
     unfolding of_round
     of-hit e = scan-hit s h (rw (row_first w i v (omega arith), row_at w i 1 v (omega arith)) (sym is ∙ e))
 
@@ -66,7 +65,7 @@ module _ {w n i : ℕ} {v : List ℕ} {r : Found} (wide : fields ≤ w) (h : i <
     of-miss e = scan-miss s h (rw (row_first w i v (omega arith), row_at w i 1 v (omega arith)) (sym is ∙ e))
 
   module _ (total : ℕ) {b : Bool} (s : Scanned (is_heavy total) w v n i r) (is : b ≡ heavy_with (get_or v (i * w) 0) (get_or v (i * w + 2) 0) total) where
-    pub heavy-hit : b ≡ true → FoundAs r n (At i)
+    pub heavy-hit : b ≡ true → FoundAs r n (Some i)
     heavy-hit e = scan-hit s h (rw (row_first w i v (omega arith), row_at w i 2 v (omega arith)) (sym is ∙ e))
 
     pub heavy-miss : b ≡ false → Scanned (is_heavy total) w v n (i + 1) r
@@ -74,34 +73,34 @@ module _ {w n i : ℕ} {v : List ℕ} {r : Found} (wide : fields ≤ w) (h : i <
 
 -- ---- the tally that a test asks for
 
-module _ {test : List ℕ → Bool} {new v : List ℕ} {w n : ℕ} {r : Found} (a : FoundAs (find_row test w n v) n r) where
-  pub tally-found : {i : ℕ} → r ≡ At i → TallyFor test new w n v (At i) v
+module _ {test : List ℕ → Bool} {new v : List ℕ} {w n : ℕ} {r : Option ℕ} (a : FoundAs (find_row test w n v) n r) where
+  pub tally-found : {i : ℕ} → r ≡ Some i → TallyFor test new w n v (Some i) v
   unfolding place_for table_for
   tally-found {i} e =
-      let f : find_row test w n v ≡ At i = sym a.is ∙ e in
+      let f : find_row test w n v ≡ Some i = sym a.is ∙ e in
       record { place = rw f; table = rw f; below = λ j q. let z : i ≡ j = cc in omega (arith, a.below i e) }
 
-  module _ (e : r ≡ Nothing) {g : Found} (b : FoundAs (find_free w n v) n g) where
-    pub tally-opened : {i : ℕ} {v' : List ℕ} → g ≡ At i → v' ≡ with_row w v i new → TallyFor test new w n v (At i) v'
+  module _ (e : (i : ℕ) → r ≡ Some i → ⊥) {g : Option ℕ} (b : FoundAs (find_free w n v) n g) where
+    pub tally-opened : {i : ℕ} {v' : List ℕ} → g ≡ Some i → v' ≡ with_row w v i new → TallyFor test new w n v (Some i) v'
     unfolding place_for table_for
     tally-opened {i} q t =
-        let f : find_row test w n v ≡ Nothing = sym a.is ∙ e in
-        let h : find_free w n v ≡ At i = sym b.is ∙ q in
+        let f : find_row test w n v ≡ None = sym a.is ∙ none_found r e in
+        let h : find_free w n v ≡ Some i = sym b.is ∙ q in
         record { place = rw (f, h); table = rw (f, h) t; below = λ j y. let z : i ≡ j = cc in omega (arith, b.below i q) }
 
-    pub tally-none : g ≡ Nothing → TallyFor test new w n v Nothing v
+    pub tally-none : g ≡ None → TallyFor test new w n v None v
     unfolding place_for table_for
     tally-none q =
-        let f : find_row test w n v ≡ Nothing = sym a.is ∙ e in
-        let h : find_free w n v ≡ Nothing = sym b.is ∙ q in
+        let f : find_row test w n v ≡ None = sym a.is ∙ none_found r e in
+        let h : find_free w n v ≡ None = sym b.is ∙ q in
         record { place = rw (f, h); table = rw (f, h); below = λ j y. let z : ◌≡◌ {A = ℕ} 0 1 = cc in omega arith }
 
 module _ (test : List ℕ → Bool) (new : List ℕ) (w n : ℕ) (v : List ℕ) where
-  row_below : (p : List ℕ → Bool) (i : ℕ) → find_row p w n v ≡ At i → i < n
+  row_below : (p : List ℕ → Bool) (i : ℕ) → find_row p w n v ≡ Some i → i < n
   unfolding find_row
   row_below p i e = omega (arith, lowest-below p w v n 0 i e)
 
-  free-below : (i : ℕ) → find_free w n v ≡ At i → i < n
+  free-below : (i : ℕ) → find_free w n v ≡ Some i → i < n
   unfolding find_free
   free-below i e = row_below is_free i e
 
@@ -110,40 +109,40 @@ module _ (test : List ℕ → Bool) (new : List ℕ) (w n : ℕ) (v : List ℕ) 
   unfolding place_for
   tally-for = record { place = refl; table = refl; below = λ i e. cases (find_row test w n v) (find_free w n v) refl refl i e }
     where
-      cases : (f g : Found) → find_row test w n v ≡ f → find_free w n v ≡ g → (i : ℕ) → first_of f g ≡ At i → i < n
-      cases (At j) g a b i e = row_below test i (a ∙ e)
-      cases Nothing g a b i e = free-below i (b ∙ e)
+      cases : (f g : Option ℕ) → find_row test w n v ≡ f → find_free w n v ≡ g → (i : ℕ) → first_of f g ≡ Some i → i < n
+      cases (Some j) g a b i e = row_below test i (a ∙ e)
+      cases None g a b i e = free-below i (b ∙ e)
 
-pub tally-below : {test : List ℕ → Bool} {new : List ℕ} {w n : ℕ} {v v' : List ℕ} {f : Found} {i : ℕ} → TallyFor test new w n v f v' → f ≡ At i → i < n
+pub tally-below : {test : List ℕ → Bool} {new : List ℕ} {w n : ℕ} {v v' : List ℕ} {f : Option ℕ} {i : ℕ} → TallyFor test new w n v f v' → f ≡ Some i → i < n
 tally-below t e = t.below _ e
 
 -- where there is no room the table is as it was
-pub tally-full : {test : List ℕ → Bool} {new : List ℕ} {w n : ℕ} {v v' : List ℕ} → TallyFor test new w n v Nothing v' → v' ≡ v
+pub tally-full : {test : List ℕ → Bool} {new : List ℕ} {w n : ℕ} {v v' : List ℕ} → TallyFor test new w n v None v' → v' ≡ v
 unfolding place_for table_for
 tally-full {test} {new} {w} {n} {v} {v'} h = cases (find_row test w n v) (find_free w n v) h.place h.table
   where
-    cases : (f g : Found) → Nothing ≡ first_of f g → v' ≡ opened new w v f g → v' ≡ v
-    cases (At j) g p t = t
-    cases Nothing (At j) p t = absurd (let z : ◌≡◌ {A = ℕ} 0 1 = cc in omega arith)
-    cases Nothing Nothing p t = t
+    cases : (f g : Option ℕ) → None ≡ first_of f g → v' ≡ opened new w v f g → v' ≡ v
+    cases (Some j) g p t = t
+    cases None (Some j) p t = absurd (let z : ◌≡◌ {A = ℕ} 0 1 = cc in omega arith)
+    cases None None p t = t
 
 -- The tally at i is one that was there and passes the test, or the new one, where none was in use.
 pub data Stands (test : List ℕ → Bool) (new : List ℕ) (w : ℕ) (v : List ℕ) (i : ℕ) (v' : List ℕ) : Type 0 where
   was-there : v' ≡ v → test (row w v i) ≡ true → Stands test new w v i v'
   was-new : v' ≡ with_row w v i new → row w v' i ≡ new → used_of (row w v i) ≡ 0 → Stands test new w v i v'
 
-module _ {test : List ℕ → Bool} {new : List ℕ} {mark : List ℕ → List ℕ} {w n : ℕ} {v v' : List ℕ} {i : ℕ} (k : Kind test new mark w) (long : n * w ≤ length v) (h : TallyFor test new w n v (At i) v') where
+module _ {test : List ℕ → Bool} {new : List ℕ} {mark : List ℕ → List ℕ} {w n : ℕ} {v v' : List ℕ} {i : ℕ} (k : Kind test new mark w) (long : n * w ≤ length v) (h : TallyFor test new w n v (Some i) v') where
   pub tally-stands : Stands test new w v i v'
   unfolding place_for table_for find_row find_free
   tally-stands = cases (find_row test w n v) (find_free w n v) refl refl h.place h.table
     where
-      cases : (f g : Found) → f ≡ find_row test w n v → g ≡ find_free w n v → At i ≡ first_of f g → v' ≡ opened new w v f g → Stands test new w v i v'
-      cases (At j) g e q p t = let z : i ≡ j = cc in was-there t (rw z (lowest-holds test w v n 0 j (sym e)))
-      cases Nothing (At j) e q p t =
+      cases : (f g : Option ℕ) → f ≡ find_row test w n v → g ≡ find_free w n v → Some i ≡ first_of f g → v' ≡ opened new w v f g → Stands test new w v i v'
+      cases (Some j) g e q p t = let z : i ≡ j = cc in was-there t (rw z (lowest-holds test w v n 0 j (sym e)))
+      cases None (Some j) e q p t =
           let z : j ≡ i = cc in
           let s : v' ≡ with_row w v i new = rw z at t in
           was-new s (rw s (with_row-row w i v new k.size (row_within w i n v (h.below i refl) long))) (rw (← z) (eqb-true _ _ (lowest-holds is_free w v n 0 j (sym q))))
-      cases Nothing Nothing e q p t = absurd (let z : ◌≡◌ {A = ℕ} 0 1 = cc in omega arith)
+      cases None None e q p t = absurd (let z : ◌≡◌ {A = ℕ} 0 1 = cc in omega arith)
 
   pub tally-passes : test (row w v' i) ≡ true
   tally-passes = cases tally-stands
@@ -187,16 +186,16 @@ append-part mark w i v p stake need c =
 -- ---- the ways out of `add_vote` and `add_timeout`
 
 -- the stake of one more author fits
-add-fits : {test : List ℕ → Bool} {new : List ℕ} {mark : List ℕ → List ℕ} {w n p stake : ℕ} {v v' : List ℕ} {i : ℕ} → Kind test new mark w → TallyFor test new w n v (At i) v'
+add-fits : {test : List ℕ → Bool} {new : List ℕ} {mark : List ℕ → List ℕ} {w n p stake : ℕ} {v v' : List ℕ} {i : ℕ} → Kind test new mark w → TallyFor test new w n v (Some i) v'
     → Countable w n v p stake → weight_of (row w v' i) + stake < 2 ^ 64
 add-fits k t c = omega (arith, tally-light k (omega (arith, c.long)) t total_max c.light)
 
-module _ {test : List ℕ → Bool} {new : List ℕ} {mark : List ℕ → List ℕ} {w n : ℕ} {v v' : List ℕ} {f : Found} (k : Kind test new mark w) (p stake need : ℕ) (t : TallyFor test new w n v f v') where
-  add-full : f ≡ Nothing → AddedAs (added test new w n v p stake need) (after test new mark w n v p stake need) NoRoom v'
+module _ {test : List ℕ → Bool} {new : List ℕ} {mark : List ℕ → List ℕ} {w n : ℕ} {v v' : List ℕ} {f : Option ℕ} (k : Kind test new mark w) (p stake need : ℕ) (t : TallyFor test new w n v f v') where
+  add-full : f ≡ None → AddedAs (added test new w n v p stake need) (after test new mark w n v p stake need) NoRoom v'
   unfolding added after
   add-full e = record { answer = rw (← t.place, e); table = rw (← t.place, e) (tally-full (rw e at t)) }
 
-  add-counted : {i : ℕ} {r : Added} {v'' : List ℕ} → n * w ≤ length v → f ≡ At i
+  add-counted : {i : ℕ} {r : Added} {v'' : List ℕ} → n * w ≤ length v → f ≡ Some i
       → AddedAs (answer_of i (row w v' i) p stake need) (with_row w v' i (counted mark (row w v' i) p stake need)) r v''
       → AddedAs (added test new w n v p stake need) (after test new mark w n v p stake need) r v''
   unfolding added after counted
@@ -211,12 +210,12 @@ module _ {test : List ℕ → Bool} {new : List ℕ} {mark : List ℕ → List �
       cases true q s = s ∙ with_row-same w i v' ∙ tally-reused k l (rw e at t) p (sym q)
       cases false q s = s
 
-module _ (votes : List ℕ) (round : ℕ) (hash : Hash) (p stake need : ℕ) {v' : List ℕ} {f : Found} (t : TallyFor (is_vote round hash) (new_vote round hash) vote_width vote_tallies votes f v') where
-  pub added-vote-full : f ≡ Nothing → AddedAs (vote_added votes round hash p stake need) (votes_after votes round hash p stake need) NoRoom v'
+module _ (votes : List ℕ) (round : ℕ) (hash : Hash) (p stake need : ℕ) {v' : List ℕ} {f : Option ℕ} (t : TallyFor (is_vote round hash) (new_vote round hash) vote_width vote_tallies votes f v') where
+  pub added-vote-full : f ≡ None → AddedAs (vote_added votes round hash p stake need) (votes_after votes round hash p stake need) NoRoom v'
   unfolding vote_added votes_after
   added-vote-full = add-full (vote-kind round hash) p stake need t
 
-  module _ {i : ℕ} (e : f ≡ At i) (c : Countable vote_width vote_tallies votes p stake) where
+  module _ {i : ℕ} (e : f ≡ Some i) (c : Countable vote_width vote_tallies votes p stake) where
     pub added-vote-fits : weight_of (row vote_width v' i) + stake < 2 ^ 64
     added-vote-fits = add-fits (vote-kind round hash) (rw e at t) c
 
@@ -225,12 +224,12 @@ module _ (votes : List ℕ) (round : ℕ) (hash : Hash) (p stake need : ℕ) {v'
     unfolding vote_added votes_after
     added-vote-counted = add-counted (vote-kind round hash) p stake need t (omega arith) e
 
-module _ (timeouts : List ℕ) (round p stake need high : ℕ) {v' : List ℕ} {f : Found} (t : TallyFor (of_round round) (new_timeout round) timeout_width timeout_tallies timeouts f v') where
-  pub added-timeout-full : f ≡ Nothing → AddedAs (timeout_added timeouts round p stake need) (timeouts_after timeouts round p stake need high) NoRoom v'
+module _ (timeouts : List ℕ) (round p stake need high : ℕ) {v' : List ℕ} {f : Option ℕ} (t : TallyFor (of_round round) (new_timeout round) timeout_width timeout_tallies timeouts f v') where
+  pub added-timeout-full : f ≡ None → AddedAs (timeout_added timeouts round p stake need) (timeouts_after timeouts round p stake need high) NoRoom v'
   unfolding timeout_added timeouts_after
   added-timeout-full = add-full (timeout-kind round p high) p stake need t
 
-  module _ {i : ℕ} (e : f ≡ At i) (c : Countable timeout_width timeout_tallies timeouts p stake) where
+  module _ {i : ℕ} (e : f ≡ Some i) (c : Countable timeout_width timeout_tallies timeouts p stake) where
     pub added-timeout-fits : weight_of (row timeout_width v' i) + stake < 2 ^ 64
     added-timeout-fits = add-fits (timeout-kind round p high) (rw e at t) c
 
@@ -248,26 +247,26 @@ module _ (test : List ℕ → Bool) (new : List ℕ) (w n : ℕ) (v : List ℕ) 
   unfolding added after
   added-no-room mark e = cases (place_for test w n v) e
     where
-      cases : (f : Found) → answer_at w (table_for test new w n v) p stake need f ≡ NoRoom → table_at mark w v (table_for test new w n v) p stake need f ≡ v
-      cases Nothing q = refl
-      cases (At i) q = absurd (answer-some i (row w (table_for test new w n v) i) p stake need q)
+      cases : (f : Option ℕ) → answer_at w (table_for test new w n v) p stake need f ≡ NoRoom → table_at mark w v (table_for test new w n v) p stake need f ≡ v
+      cases None q = refl
+      cases (Some i) q = absurd (answer-some i (row w (table_for test new w n v) i) p stake need q)
 
   pub added-used : (mark : List ℕ → List ℕ) → added test new w n v p stake need ≡ Used → after test new mark w n v p stake need ≡ v
   unfolding added after
   added-used mark e = cases (place_for test w n v) e
     where
-      cases : (f : Found) → answer_at w (table_for test new w n v) p stake need f ≡ Used → table_at mark w v (table_for test new w n v) p stake need f ≡ v
-      cases Nothing q = refl
-      cases (At i) q = rw (used-has i (row w (table_for test new w n v) i) p stake need (sym q))
+      cases : (f : Option ℕ) → answer_at w (table_for test new w n v) p stake need f ≡ Used → table_at mark w v (table_for test new w n v) p stake need f ≡ v
+      cases None q = refl
+      cases (Some i) q = rw (used-has i (row w (table_for test new w n v) i) p stake need (sym q))
 
   -- the row of a quorum is one of the table's
   pub added-below : {i : ℕ} {s : Signers} → added test new w n v p stake need ≡ Full i s → i < n
   unfolding added
   added-below {i} {s} e = cases (place_for test w n v) refl e
     where
-      cases : (f : Found) → place_for test w n v ≡ f → answer_at w (table_for test new w n v) p stake need f ≡ Full i s → i < n
-      cases Nothing z q = absurd (let y : ◌≡◌ {A = ℕ} 0 1 = cc in omega arith)
-      cases (At j) z q = rw (← answer-row j (row w (table_for test new w n v) j) p stake need q) ((tally-for test new w n v).below j z)
+      cases : (f : Option ℕ) → place_for test w n v ≡ f → answer_at w (table_for test new w n v) p stake need f ≡ Full i s → i < n
+      cases None z q = absurd (let y : ◌≡◌ {A = ℕ} 0 1 = cc in omega arith)
+      cases (Some j) z q = rw (← answer-row j (row w (table_for test new w n v) j) p stake need q) ((tally-for test new w n v).below j z)
 
 -- ---- the ways of `weights_of`
 
@@ -305,11 +304,11 @@ pub look-start : (votes timeouts : List ℕ) (total : ℕ) → Looked votes time
 look-start votes timeouts total = record { of-votes = heavy-start vote_width vote_tallies votes total; of-timeouts = heavy-start timeout_width timeout_tallies timeouts total }
 
 module _ (w n : ℕ) (v : List ℕ) (total : ℕ) where
-  heavy-some : {i : ℕ} → FoundAs (find_heavy w n v total) n (At i) → heavy w n v total ≡ true
+  heavy-some : {i : ℕ} → FoundAs (find_heavy w n v total) n (Some i) → heavy w n v total ≡ true
   unfolding heavy
   heavy-some f = rw (← f.is)
 
-  heavy-none : FoundAs (find_heavy w n v total) n Nothing → heavy w n v total ≡ false
+  heavy-none : FoundAs (find_heavy w n v total) n None → heavy w n v total ≡ false
   unfolding heavy
   heavy-none f = rw (← f.is)
 

@@ -26,13 +26,6 @@ pub const TIMEOUT_TALLIES: usize = 16;
 
 pub const TIMEOUT_WIDTH: usize = 68;
 
-// Where a search ends: at the lowest row that it looks for, or without one.
-#[derive(Clone, Copy)]
-pub enum Found {
-    At(usize),
-    Nothing,
-}
-
 // What became of a vote or a timeout.
 #[derive(Clone, Copy)]
 pub enum Added {
@@ -49,7 +42,7 @@ pub enum Added {
 // ---- what is done to a row where it lies
 
 // The lowest vote tally that is in use for the round and the hash.
-fn find_vote(votes: &[u64], round: Round, hash: Hash) -> Found
+fn find_vote(votes: &[u64], round: Round, hash: Hash) -> Option<usize>
     requires { length votes.now ≡ votes_length }
     ensures { FoundAs (find_row (is_vote round.0 hash) vote_width vote_tallies votes.now) vote_tallies result }
 {
@@ -58,15 +51,15 @@ fn find_vote(votes: &[u64], round: Round, hash: Hash) -> Found
         let from = i * VOTE_WIDTH;
         let to = from + VOTE_WIDTH;
         if is_vote(&votes[from..to], round, hash) {
-            return Found::At(i);
+            return Some(i);
         }
         i += 1;
     }
-    Found::Nothing
+    None
 }
 
 // The lowest timeout tally that is in use for the round.
-fn find_timeout(timeouts: &[u64], round: Round) -> Found
+fn find_timeout(timeouts: &[u64], round: Round) -> Option<usize>
     requires { length timeouts.now ≡ timeouts_length }
     ensures { FoundAs (find_row (of_round round.0) timeout_width timeout_tallies timeouts.now) timeout_tallies result }
 {
@@ -74,15 +67,15 @@ fn find_timeout(timeouts: &[u64], round: Round) -> Found
     while i < TIMEOUT_TALLIES {
         let from = i * TIMEOUT_WIDTH;
         if is_of(timeouts[from], timeouts[from + ROUND], round) {
-            return Found::At(i);
+            return Some(i);
         }
         i += 1;
     }
-    Found::Nothing
+    None
 }
 
 // The lowest of n tallies, each w wide, that is not in use.
-fn find_free(v: &[u64], w: usize, n: usize) -> Found
+fn find_free(v: &[u64], w: usize, n: usize) -> Option<usize>
     requires { (fields ≤ w) × (n * w ≤ length v.now) }
     ensures { FoundAs (find_free w n v.now) n result }
 {
@@ -90,11 +83,11 @@ fn find_free(v: &[u64], w: usize, n: usize) -> Found
     while i < n {
         let from = i * w;
         if v[from] == 0 {
-            return Found::At(i);
+            return Some(i);
         }
         i += 1;
     }
-    Found::Nothing
+    None
 }
 
 fn open_vote_at(votes: &mut [u64], i: usize, round: Round, hash: Hash)
@@ -144,20 +137,16 @@ fn append_high_at(
 
 // The row of the tally for the round and the hash, which is opened where there is none yet and
 // there is room.
-fn vote_tally(votes: &mut [u64], round: Round, hash: Hash) -> Found
+fn vote_tally(votes: &mut [u64], round: Round, hash: Hash) -> Option<usize>
     requires { length votes.old ≡ votes_length }
     ensures { TallyFor (is_vote round.0 hash) (new_vote round.0 hash) vote_width vote_tallies votes.old result votes.new }
 {
-    match find_vote(votes, round, hash) {
-        Found::At(i) => Found::At(i),
-        Found::Nothing => match find_free(votes, VOTE_WIDTH, VOTE_TALLIES) {
-            Found::At(i) => {
-                open_vote_at(votes, i, round, hash);
-                Found::At(i)
-            }
-            Found::Nothing => Found::Nothing,
-        },
+    if let Some(i) = find_vote(votes, round, hash) {
+        return Some(i);
     }
+    let i = find_free(votes, VOTE_WIDTH, VOTE_TALLIES)?;
+    open_vote_at(votes, i, round, hash);
+    Some(i)
 }
 
 // A vote counted in the tally of its round and hash. `NoRoom` and `Used` leave the whole table as
@@ -174,28 +163,24 @@ pub fn add_vote(
     ensures { AddedAs (vote_added votes.old round.0 hash place.0 stake.0 need.0) (votes_after votes.old round.0 hash place.0 stake.0 need.0) result votes.new }
 {
     match vote_tally(votes, round, hash) {
-        Found::At(i) => append_at(votes, i, place, stake, need),
-        Found::Nothing => Added::NoRoom,
+        Some(i) => append_at(votes, i, place, stake, need),
+        None => Added::NoRoom,
     }
 }
 
 // ---- timeouts
 
 // The row of the tally for the round, as `vote_tally`.
-fn timeout_tally(timeouts: &mut [u64], round: Round) -> Found
+fn timeout_tally(timeouts: &mut [u64], round: Round) -> Option<usize>
     requires { length timeouts.old ≡ timeouts_length }
     ensures { TallyFor (of_round round.0) (new_timeout round.0) timeout_width timeout_tallies timeouts.old result timeouts.new }
 {
-    match find_timeout(timeouts, round) {
-        Found::At(i) => Found::At(i),
-        Found::Nothing => match find_free(timeouts, TIMEOUT_WIDTH, TIMEOUT_TALLIES) {
-            Found::At(i) => {
-                open_timeout_at(timeouts, i, round);
-                Found::At(i)
-            }
-            Found::Nothing => Found::Nothing,
-        },
+    if let Some(i) = find_timeout(timeouts, round) {
+        return Some(i);
     }
+    let i = find_free(timeouts, TIMEOUT_WIDTH, TIMEOUT_TALLIES)?;
+    open_timeout_at(timeouts, i, round);
+    Some(i)
 }
 
 // A timeout counted in the tally of its round, with its author's high round. `NoRoom` and `Used`
@@ -212,8 +197,8 @@ pub fn add_timeout(
     ensures { AddedAs (timeout_added timeouts.old round.0 place.0 stake.0 need.0) (timeouts_after timeouts.old round.0 place.0 stake.0 need.0 high.0) result timeouts.new }
 {
     match timeout_tally(timeouts, round) {
-        Found::At(i) => append_high_at(timeouts, i, place, stake, need, high),
-        Found::Nothing => Added::NoRoom,
+        Some(i) => append_high_at(timeouts, i, place, stake, need, high),
+        None => Added::NoRoom,
     }
 }
 

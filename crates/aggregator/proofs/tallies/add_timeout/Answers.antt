@@ -7,8 +7,8 @@ use Rattle.aggregator.proofs.tallies.add_timeout.Goals as goal
 pub append_high_at-requires : goal.append_high_at-requires
 append_high_at-requires c = (search rules, search (rules, tally-below), search rules, search (rules, added-timeout-fits))
 
-pub returns-in-At : goal.returns-in-At
-returns-in-At c = search (rules, added-timeout-counted)
+pub returns-in-Some : goal.returns-in-Some
+returns-in-Some c = search (rules, added-timeout-counted)
 
-pub returns-in-Nothing : goal.returns-in-Nothing
-returns-in-Nothing c = search (rules, added-timeout-full)
+pub returns-in-None : goal.returns-in-None
+returns-in-None c = search (rules, added-timeout-full)

@@ -7,8 +7,8 @@ use Rattle.aggregator.proofs.tallies.add_vote.Goals as goal
 pub append_at-requires : goal.append_at-requires
 append_at-requires c = (search rules, search (rules, tally-below), search rules, search (rules, added-vote-fits))
 
-pub returns-in-At : goal.returns-in-At
-returns-in-At c = search (rules, added-vote-counted)
+pub returns-in-Some : goal.returns-in-Some
+returns-in-Some c = search (rules, added-vote-counted)
 
-pub returns-in-Nothing : goal.returns-in-Nothing
-returns-in-Nothing c = search (rules, added-vote-full)
+pub returns-in-None : goal.returns-in-None
+returns-in-None c = search (rules, added-vote-full)

@@ -8,11 +8,11 @@ use Rattle.aggregator.proofs.tallies.timeout_tally.Goals as goal
 pub open_timeout_at-requires : goal.open_timeout_at-requires
 open_timeout_at-requires c = (search rules, search (rules, found_below))
 
-pub returns-in-At : goal.returns-in-At
-returns-in-At c = search (rules, tally-found)
+pub returns-in-Some : goal.returns-in-Some
+returns-in-Some c = search (rules, tally-found)
 
-pub returns-in-At-find_free : goal.returns-in-At-find_free
-returns-in-At-find_free c = search (rules, tally-opened)
+pub returns : goal.returns
+returns c = tally-opened c.find_timeout.ensures c.in_default.not-Some c.find_free.ensures c.in_ok-i.was c.open_timeout_at.ensures
 
-pub returns-in-Nothing-find_free : goal.returns-in-Nothing-find_free
-returns-in-Nothing-find_free c = search (rules, tally-none)
+pub returns-in_err-i : goal.returns-in_err-i
+returns-in_err-i c = rw c.from_residual.ensures (tally-none c.find_timeout.ensures c.in_default.not-Some c.find_free.ensures c.in_err-i.was)
