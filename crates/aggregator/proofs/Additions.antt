@@ -24,7 +24,7 @@ use Rattle.aggregator.specs.Rows.{row, with_row}
 use Rattle.aggregator.specs.Tally.{vote_width, timeout_width, used_of, weight_of, names_of, is_vote, of_round, new_vote, new_timeout, has_name, with_name, signers, with_high, no_high, with_author, answer_of}
 use Rattle.aggregator.specs.Tallies.{vote_tallies, timeout_tallies, votes_length, timeouts_length, Light, place_for, table_for, TallyFor, answer_at, table_at, added, after, vote_added, votes_after, timeout_added, timeouts_after}
 use Rattle.aggregator.proofs.Rows.{row-length, row_within, with_row-row, with_row-length, with_row-other}
-use Rattle.aggregator.proofs.TallyLaws.{name-with, author-length, author-names, author-weight, Kind, vote-kind, timeout-kind}
+use Rattle.aggregator.proofs.TallyLaws.{name-with, author-length, author-names, author-weight, Kind, kind-keyed, vote-kind, timeout-kind}
 use Rattle.aggregator.proofs.TableLaws.{tally-for, Stands, was-there, was-new, tally-stands, tally-passes, tally-length, Each}
 
 -- The author p is counted in the tally t, which was there or is new: v' has it in row i, and is otherwise v.
@@ -66,7 +66,7 @@ module _ {test : List ℕ → Bool} {new : List ℕ} {mark : List ℕ → List �
     once-counted : has_name (names_of (row w o i)) p ≡ false → Counted test new mark w n v p stake need i (row w o i) (with_row w o i (with_author mark (row w o i) p stake need))
     once-counted h =
         let b : i < n = t.below i refl in
-        let s : length o ≡ length v = tally-length k l t in
+        let s : length o ≡ length v = tally-length (kind-keyed k) l t in
         let m : n * w ≤ length o = omega arith in
         let at : i * w + w ≤ length o = row_within w i n o b m in
         let z : length (row w o i) ≡ w = row-length w i o at in
@@ -75,11 +75,11 @@ module _ {test : List ℕ → Bool} {new : List ℕ} {mark : List ℕ → List �
         record {
           below = b;
           size = z;
-          passes = tally-passes k l t;
-          stood = stood-as (tally-stands k l t);
+          passes = tally-passes (kind-keyed k) l t;
+          stood = stood-as (tally-stands (kind-keyed k) l t);
           fresh = h;
           here = with_row-row w i o u r at;
-          others = λ j q. with_row-other w u r i o at j q ∙ rows-as-were (tally-stands k l t) j q;
+          others = λ j q. with_row-other w u r i o at j q ∙ rows-as-were (tally-stands (kind-keyed k) l t) j q;
           long = with_row-length w i o u r at ∙ s;
         }
 

@@ -13,7 +13,7 @@ use Prim.Native.Nat.{ℕ, zero, suc, ◌+◌, ◌-◌, ◌*◌, ◌%◌, ◌^◌
 use mathlib.Core.Bool.{Bool, true, false, cond}
 use mathlib.Core.List.{List, [], ◌++◌, append_assoc, append-nil}
 use mathlib.Core.Logic.{⊎_elim}
-use Rattle.std.proofs.Common.{Option, Some, None}
+use Rattle.std.proofs.Common.{Option, Some, None, is_some}
 use mathlib.Core.Path.{◌≡◌, refl, ap, sym, ◌∙◌}
 use native.Mathlib.Nat.{zero-mul, suc-mul, add_comm, add-zero, mul-le-mul_right, one-mul, eq-or-lt_of_le}
 use native.Mathlib.Numerals.{add-one}
@@ -105,6 +105,28 @@ module _ (p : List ℕ → Bool) (w : ℕ) (v : List ℕ) where
   pub none-lowest : (n k : ℕ) → ((i : ℕ) → k ≤ i → i < k + n → p (row w v i) ≡ false) → lowest p w v n k ≡ None
   none-lowest zero k h = refl
   none-lowest (suc n) k h = rw (h k (omega arith) (omega arith)) (none-lowest n (suc k) (λ i a b. h i (omega arith) (omega arith)))
+
+  -- the first that passes is found
+  pub lowest-is : (n k i : ℕ) → k ≤ i → i < k + n → p (row w v i) ≡ true → ((j : ℕ) → k ≤ j → j < i → p (row w v j) ≡ false) → lowest p w v n k ≡ Some i
+  lowest-is zero k i a b h none = absurd (omega arith)
+  lowest-is (suc n) k i a b h none =
+      ⊎_elim (λ (z : k ≡ i). rw (z, h)) (λ (z : k < i). rw (none k (omega arith) z) (lowest-is n (suc k) i (omega arith) (omega arith) h (λ j c d. none j (omega arith) d))) (eq-or-lt_of_le a)
+
+-- a row of the table
+pub lowest-found : (p : List ℕ → Bool) (w : ℕ) (v : List ℕ) (n i : ℕ) → i < n → p (row w v i) ≡ true → ((j : ℕ) → j < i → p (row w v j) ≡ false) → FoundAs (lowest p w v n 0) n (Some i)
+lowest-found p w v n i l h none = record { is = sym (lowest-is p w v n 0 i (omega arith) (omega arith) h (λ j a b. none j b)); below = λ j q. let z : i ≡ j = cc in omega arith }
+
+-- a row that passes is found, or one below it
+pub lowest-some : (p : List ℕ → Bool) (w : ℕ) (v : List ℕ) (n i : ℕ) → i < n → p (row w v i) ≡ true → is_some (lowest p w v n 0) ≡ true
+lowest-some p w v n i l h = cases (lowest p w v n 0) refl
+  where
+    cases : (r : Option ℕ) → lowest p w v n 0 ≡ r → is_some r ≡ true
+    cases (Some j) e = refl
+    cases None e = absurd (let y : ◌≡◌ {A = Bool} true false = sym h ∙ lowest-none p w v n 0 i e (omega arith) (omega arith) in let z : ◌≡◌ {A = ℕ} 0 1 = cc in omega arith)
+
+-- where no row of the table passes
+pub none-found : (p : List ℕ → Bool) (w : ℕ) (v : List ℕ) (n : ℕ) → ((j : ℕ) → j < n → p (row w v j) ≡ false) → FoundAs (lowest p w v n 0) n None
+none-found p w v n h = record { is = sym (none-lowest p w v n 0 (λ j a b. h j (omega arith))); below = λ j q. let z : ◌≡◌ {A = ℕ} 0 1 = cc in omega arith }
 
 -- ---- a row that is lent as a part
 

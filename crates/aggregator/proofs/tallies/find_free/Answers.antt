@@ -1,35 +1,15 @@
--- `aggregator::tallies::find_free` meets its contract: the loop has shown what the rows from i on give (`Scanned`). The measure is what is left.
+-- `aggregator::tallies::find_free` meets its contract: the iterator finds the lowest row that passes (`chunks-position`).
 -- Assumes nothing.
-use Prim.Native.Nat.{◌+◌, ◌*◌, ◌≤◌}
-use native.Mathlib.Omega.{arith}
-use lib.ListN.{length}
-use borrow.Author.Rules.{rules}
-use Rattle.aggregator.proofs.Rows.{row-end, scan-end}
-use Rattle.aggregator.proofs.TableLaws.{free-start, free-hit, free-miss}
+use Rattle.std.proofs.Common.{◌∙◌, rules, tests, arith}
+use Rattle.aggregator.specs.Tallies.{find_row, find_free}
+use Rattle.aggregator.specs.Tally.{is_free}
+use Rattle.aggregator.proofs.Chunks.{rows_cut, chunks-position}
 use Rattle.aggregator.proofs.tallies.find_free.Goals as goal
-use Rattle.aggregator.proofs.tallies.find_free.Goals.{In-loop-i}
-
-pub loop-i-init : goal.loop-i-init
-loop-i-init c = (search rules, search (rules, free-start))
-
--- the row lies in the table
-within : (c : In-loop-i) → c.loop-i.i * c.args.w + c.args.w ≤ length c.args.v.now
-within c = omega (arith, row-end c.args.w c.loop-i.i c.args.n c.loop-i-test.true)
-
-pub overflow_mul-from : goal.overflow_mul-from
-overflow_mul-from c = omega (arith, within (goal.at.overflow_mul-from c).In-loop-i)
-
-pub offset_bounds-v-from : goal.offset_bounds-v-from
-offset_bounds-v-from c = omega (arith, within (goal.at.offset_bounds-v-from c).In-loop-i)
-
-pub bounds-v-from : goal.bounds-v-from
-bounds-v-from c = omega (arith, within (goal.at.bounds-v-from c).In-loop-i)
-
-pub returns-then-v-from-eq0 : goal.returns-then-v-from-eq0
-returns-then-v-from-eq0 c = search (rules, free-hit)
-
-pub loop-i-preserved : goal.loop-i-preserved
-loop-i-preserved c = (omega arith, search (rules, free-miss))
 
 pub returns : goal.returns
-returns c = search (rules, scan-end)
+unfolding find_free find_row
+returns g c =
+    let k = g.K.Key in
+    let wide = g.met.K.Key.wide in
+    let cut = c.chunks_exact.ensures in
+    chunks-position k.WIDTH k.TALLIES c.args.table.now c.requires (omega arith) is_free _ _ (λ x b q h. search (rules, tests)) _ (rows_cut (omega arith) _ cut.rest (cut.size ∙ c.WIDTH.ensures) cut.runs) _ c.position.ensures.runs
