@@ -10,7 +10,6 @@ use mathlib.Core.List.{List}
 use mathlib.Core.Logic.{⊎_elim}
 use mathlib.Core.Path.{◌≡◌, refl, sym, ap, ◌∙◌}
 use native.Mathlib.Nat.{lt_of_mul-lt-mul_right, mul-div_cancel}
-use native.Mathlib.Numerals.{add-one}
 use native.Mathlib.Omega.{arith}
 use denote.Param.Members.{Mut, Called}
 use denote.Ref.{Bor}
@@ -44,13 +43,13 @@ module _ (p : Run (chunks_exact_steps {A = ℕ})) where
 
 -- what the runs of an iterator over v, cut at w, say
 module _ {w : ℕ} {v : List ℕ} (wide : 0 < w) (s : ChunksExact ℕ) (rest : chunks_exact_rest s ≡ v) (size : chunks_exact_size s ≡ w)
-  (runs : EveryRun (chunks_exact_steps {A = ℕ}) (λ p. 0 < chunks_exact_size p.from → IsChunksExactRun p (chunks_exact_size p.from) (chunks_exact_rest p.from))) where
+    (runs : EveryRun (chunks_exact_steps {A = ℕ}) (λ p. 0 < chunks_exact_size p.from → IsChunksExactRun p (chunks_exact_size p.from) (chunks_exact_rest p.from))) where
   pub rows_cut : (p : Run (chunks_exact_steps {A = ℕ})) → p.from ≡ s → IsChunksExactRun p w v
   rows_cut p e = rw (e, rest, size) at (runs p p.seen (rw (e, size) wide))
 
 module _ (w n : ℕ) (v : List ℕ) (long : length v ≡ n * w) (wide : 0 < w) (test : List ℕ → Bool) {F : Type 0} (g : Mut F (Bor (List ℕ) × Unit {0}) Bool) (f : F)
-  (gives : (x : Bor (List ℕ)) (b : Bool) (q : F) → Called g f (x, tt) b q → (q ≡ f) × (b ≡ test x.now)) (s : ChunksExact ℕ)
-  (cut : (p : Run (chunks_exact_steps {A = ℕ})) → p.from ≡ s → IsChunksExactRun p w v) where
+    (gives : (x : Bor (List ℕ)) (b : Bool) (q : F) → Called g f (x, tt) b q → (q ≡ f) × (b ≡ test x.now)) (s : ChunksExact ℕ)
+    (cut : (p : Run (chunks_exact_steps {A = ℕ})) → p.from ≡ s → IsChunksExactRun p w v) where
   same_closure : CallKeepsClosure g f
   same_closure a r q h = (gives a.0 r q h).0
 

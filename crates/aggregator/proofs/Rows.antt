@@ -1,6 +1,5 @@
 -- Laws of a table that lies in one list, row after row. Nothing here knows what a row means. In order:
---     Scanned, scan-...      a search that has come to row i, and its ways on
---     lowest-...             what a search says of the rows
+--     lowest-..., none...    what a search says of the rows
 --     part-..., put-...      a row that is lent as a part, and the table once it is back
 --     row-...                the numbers and the place of a row
 --     Mapped, map-...        a table of which i rows are replaced
@@ -26,45 +25,6 @@ use lib.Seq.{take-append-add, drop-append-add, get_or-take, get_or-drop, sets, s
 use Rattle.aggregator.specs.Rows.{zeros, row, with_row, lowest, map_rows, FoundAs}
 
 -- ---- a search
-
--- r, what all n rows give, is what the rows from i on give
-pub record Scanned (p : List ℕ → Bool) (w : ℕ) (v : List ℕ) (n i : ℕ) (r : Option ℕ) : Type 0 where
-  pub rest : r ≡ lowest p w v (n - i) i
-
-pub scan-start : (p : List ℕ → Bool) (w : ℕ) (v : List ℕ) (n : ℕ) → Scanned p w v n 0 (lowest p w v n 0)
-scan-start p w v n = let e : n - 0 ≡ n = omega arith in record { rest = rw e }
-
-module _ {p : List ℕ → Bool} {w : ℕ} {v : List ℕ} {n i : ℕ} {r : Option ℕ} (s : Scanned p w v n i r) where
-  pub scan-hit : i < n → p (row w v i) ≡ true → FoundAs r n (Some i)
-  scan-hit h e =
-      let m : n - i ≡ suc (n - (i + 1)) = omega arith in
-      record {
-        is = rw (s.rest, m, e);
-        below = λ j q. let z : i ≡ j = cc in omega arith;
-      }
-
-  pub scan-miss : i < n → p (row w v i) ≡ false → Scanned p w v n (i + 1) r
-  scan-miss h e =
-      let m : n - i ≡ suc (n - (i + 1)) = omega arith in
-      record { rest = rw (s.rest, m, e, add-one) }
-
-  pub scan-end : n ≤ i → FoundAs r n None
-  scan-end h =
-      let m : n - i ≡ 0 = omega arith in
-      record {
-        is = rw (s.rest, m);
-        below = λ j q. let z : ◌≡◌ {A = ℕ} 0 1 = cc in omega arith;
-      }
-
-  -- past the last row there is nothing to be found
-  pub scan-past : n ≤ i → Scanned p w v n (i + 1) r
-  scan-past h =
-      let m : n - i ≡ 0 = omega arith in
-      let k : n - (i + 1) ≡ 0 = omega arith in
-      record { rest = rw (s.rest, m, k) }
-
-pub found_below : {f r : Option ℕ} {n i : ℕ} → FoundAs f n r → r ≡ Some i → i < n
-found_below a e = a.below _ e
 
 -- where no row is found there is none
 pub none_found : (r : Option ℕ) → ((i : ℕ) → r ≡ Some i → ⊥) → r ≡ None
@@ -141,14 +101,6 @@ put-row w i v r = let e : i * w + w - i * w ≡ w = omega arith in rw e
 pub put_as : (w i : ℕ) (v : List ℕ) {r s : List ℕ} → r ≡ s → put_mid (i * w) (i * w + w - i * w) v r ≡ with_row w v i s
 put_as w i v {r} e = put-row w i v r ∙ ap (λ (t : List ℕ). with_row w v i t) e
 
--- a search whose test is of the part
-module _ {p : List ℕ → Bool} {w : ℕ} {v : List ℕ} {n i : ℕ} {r : Option ℕ} {b : Bool} (s : Scanned p w v n i r) (h : i < n) (is : b ≡ p (take (i * w + w - i * w) (drop (i * w) v))) where
-  pub part-hit : b ≡ true → FoundAs r n (Some i)
-  part-hit e = scan-hit s h (rw (← part-row w i v) (sym is ∙ e))
-
-  pub part-miss : b ≡ false → Scanned p w v n (i + 1) r
-  part-miss e = scan-miss s h (rw (← part-row w i v) (sym is ∙ e))
-
 -- ---- a row
 
 pub row-length : (w i : ℕ) (v : List ℕ) → i * w + w ≤ length v → length (row w v i) ≡ w
@@ -221,9 +173,6 @@ map_rows-same f w (suc n) v h =
     rw (first, rest) (take-append-drop w v)
 
 module _ {f : List ℕ → List ℕ} {w : ℕ} {v k : List ℕ} {i : ℕ} (same : (t : List ℕ) → length (f t) ≡ length t) (m : Mapped f w v i k) where
-  pub map-length : length k ≡ length v
-  map-length = rw m.is (map_rows-length f same w i v)
-
   -- a turn that replaces row i by r, which is f of it
   pub map-store : (r : List ℕ) → i * w + w ≤ length v → r ≡ f (row w k i) → Mapped f w v (i + 1) (with_row w k i r)
   map-store r h e =

@@ -18,21 +18,20 @@ use mathlib.Core.Path.{◌≡◌, refl, sym, ap, ◌∙◌}
 use native.Mathlib.Nat.{eq-or-lt_of_le}
 use native.Mathlib.Numerals.{add-one}
 use native.Mathlib.Omega.{arith}
-use borrow.Author.Tests.{eq-eqb, ne_eqb, eqb-true}
+use borrow.Author.Tests.{eqb-true}
 use borrow.Rule.Slice.PartMut.{put_mid}
-use lib.Bits.{bit_or, or_add_and, and_le_l, and_le_r}
-use lib.ListN.{length, get_or, take, drop, length-take, length-drop}
+use lib.Bits.{bit_or}
+use lib.ListN.{length, take, drop, length-take, length-drop}
 use lib.Seq.{drop-drop, drop_at, take-add, length-take-le}
-use Rattle.certificates.specs.declared.numbers.Hash.{Hash}
 use Rattle.certificates.specs.declared.numbers.Signers.{Signers}
 use Rattle.aggregator.specs.declared.tallies.Added.{Added}
 use Rattle.aggregator.specs.declared.tallies.Added.TheVariants.{NoRoom, Used, Full}
 use Rattle.aggregator.specs.Rows.{zeros, row, with_row, FoundAs}
-use Rattle.aggregator.specs.Tally.{fields, places, vote_width, timeout_width, used_of, round_of, weight_of, names_of, is_free, is_vote, round_with, of_round, heavy_with, is_heavy, kept, new_vote, new_timeout, has_name, no_high, with_high, with_author, counted, answer_of, AddedAs}
-use Rattle.aggregator.specs.Tallies.{vote_tallies, timeout_tallies, timeouts_length, total_max, find_row, find_free, find_heavy, heavy, any_heavy, Light, joined, dropped, first_of, place_for, opened, table_for, TallyFor, Countable, answer_at, table_at, added, after, vote_added, votes_after, timeout_added, timeouts_after, highs_at, HighsAs}
+use Rattle.aggregator.specs.Tally.{fields, places, vote_width, timeout_width, used_of, round_of, weight_of, names_of, is_free, is_heavy, kept, has_name, with_author, counted, answer_of, AddedAs}
+use Rattle.aggregator.specs.Tallies.{vote_tallies, timeout_tallies, timeouts_length, total_max, find_row, find_free, find_heavy, heavy, any_heavy, Light, joined, dropped, first_of, place_for, opened, table_for, TallyFor, Countable, answer_at, table_at, added, after, highs_at, HighsAs}
 use Rattle.aggregator.specs.Keys.{Keyed}
-use Rattle.aggregator.proofs.Rows.{none_found, part-row, put_as, row_first, row_at, row_within, Scanned, scan-start, scan-hit, scan-miss, scan-end, scan-past, lowest-below, lowest-holds, none-lowest, with_row-same, with_row-row, with_row-length, with_row-each, map_rows-row, zeros-row}
-use Rattle.aggregator.proofs.TallyLaws.{heavy-under, used-has, answer-some, answer-row, kept-length, kept-used, name-none, Kind, vote-kind, timeout-kind}
+use Rattle.aggregator.proofs.Rows.{none_found, part-row, put_as, row_within, lowest-below, lowest-holds, none-lowest, with_row-same, with_row-row, with_row-length, with_row-each, map_rows-row, zeros-row}
+use Rattle.aggregator.proofs.TallyLaws.{heavy-under, used-has, answer-some, answer-row, kept-length, kept-used, name-none}
 
 -- ---- the tally that a test asks for
 

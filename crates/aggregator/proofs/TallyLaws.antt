@@ -8,12 +8,12 @@
 --     vote-is, timeout-is            what a tally is that is looked up
 -- Assumes nothing.
 use Prim.Native.Nat.{ℕ, ◌+◌, ◌*◌, ◌/◌, ◌%◌, ◌≤◌, ◌<◌, ◌^◌}
-use mathlib.Core.Bool.{Bool, true, false, not, cond}
+use mathlib.Core.Bool.{Bool, true, false, cond}
 use mathlib.Core.List.{List}
 use mathlib.Core.Path.{◌≡◌, refl, sym, ap, ◌∙◌}
 use native.Mathlib.Nat.{zero-div, div_self}
 use native.Mathlib.Omega.{arith}
-use borrow.Author.Tests.{eq-eqb, ne_eqb, lt-ltb, le-ltb, ltb-false, eqb-true, eqb-false}
+use borrow.Author.Tests.{eq-eqb, ne_eqb, lt-ltb, le-ltb, ltb-false, eqb-true}
 use lib.Bits.{bit_or, or_shr, or_step}
 use lib.Dec.{eqb, ltb}
 use lib.Pow.{pow_pos}
@@ -53,20 +53,12 @@ module _ (round used of : ℕ) where
   pub of-used : (used ≡ 0 → ⊥) → eqb of round ≡ round_with used of round
   of-used h = rw (ne_eqb _ _ h)
 
-module _ (used weight total : ℕ) where
-  pub heavy-over : total < weight → not (eqb used 0) ≡ heavy_with used weight total
-  heavy-over h = rw (lt-ltb _ _ h) (by-mark (eqb used 0))
-    where
-      by-mark : (e : Bool) → not e ≡ cond e false true
-      by-mark true = refl
-      by-mark false = refl
-
-  pub heavy-under : weight ≤ total → false ≡ heavy_with used weight total
-  heavy-under h = rw (le-ltb _ _ h) (by-mark (eqb used 0))
-    where
-      by-mark : (e : Bool) → false ≡ cond e false false
-      by-mark true = refl
-      by-mark false = refl
+pub heavy-under : (used weight total : ℕ) → weight ≤ total → false ≡ heavy_with used weight total
+heavy-under used weight total h = rw (le-ltb _ _ h) (by-mark (eqb used 0))
+  where
+    by-mark : (e : Bool) → false ≡ cond e false false
+    by-mark true = refl
+    by-mark false = refl
 
 module _ (round : ℕ) (t : List ℕ) where
   pub keep-dropped : {t' : List ℕ} → (get_or t 0 0 ≡ 0 → ⊥) → get_or t 1 0 < round → t' ≡ zeros (length t) → t' ≡ kept round t

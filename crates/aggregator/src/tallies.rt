@@ -12,9 +12,7 @@ ghost use Rattle.aggregator.specs.Rows.{row, with_row, FoundAs, zeros};
 ghost use Rattle.aggregator.specs.Tally.{fields, places, vote_width, timeout_width, weight_of, is_vote, of_round, new_vote, new_timeout, no_high, with_high, answer_of, counted, AddedAs};
 ghost use Rattle.aggregator.specs.Tallies.{vote_tallies, timeout_tallies, votes_length, timeouts_length, find_row, find_free, heavy, any_heavy, joined, dropped, TallyFor, Countable, added, after, vote_added, votes_after, timeout_added, timeouts_after, HighsAs};
 
-use crate::tally::{
-    HIGHS, Key, PLACES, TimeoutKey, USED, VoteKey, WEIGHT, append, is_heavy, keep,
-};
+use crate::tally::{HIGHS, Key, PLACES, TimeoutKey, USED, VoteKey, WEIGHT, append, is_heavy, keep};
 use certificates::numbers::{Hash, Place, Round, Signers, Stake};
 
 pub const VOTE_TALLIES: usize = 32;
@@ -156,7 +154,7 @@ pub fn cleanup(v: &mut [u64], w: usize, n: usize, round: Round)
     requires { (fields ≤ w) × (n * w ≤ length v.old) }
     ensures { v.new ≡ dropped w n v.old round.0 }
 {
-    // Once the chunks of `chunks_exact_mut` are back, a proof knows only the length.
+    // By `chunks_exact_mut` the proof does not close: once the chunks are back it knows their length only.
     for i in 0..n {
         let from = i * w;
         let to = from + w;

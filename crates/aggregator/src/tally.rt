@@ -8,16 +8,14 @@ ghost use Rattle.aggregator.specs.Tallies.{vote_tallies, timeout_tallies};
 ghost use Rattle.aggregator.specs.Keys.{Keyed, vote-keyed, timeout-keyed};
 ghost use Rattle.std.proofs.Common.{arith};
 
-use crate::tallies::{
-    Added, TIMEOUT_TALLIES, TIMEOUT_WIDTH, VOTE_TALLIES, VOTE_WIDTH, clear,
-};
+use crate::tallies::{Added, TIMEOUT_TALLIES, TIMEOUT_WIDTH, VOTE_TALLIES, VOTE_WIDTH, clear};
 use certificates::config::MEMBERS_MAX;
 use certificates::numbers::{Hash, Place, Round, Signers, Stake, same_hash};
 
 // Where a tally's numbers lie.
 pub(crate) const USED: usize = 0;
 
-pub(crate) const ROUND: usize = 1;
+const ROUND: usize = 1;
 
 pub(crate) const WEIGHT: usize = 2;
 

@@ -1,8 +1,6 @@
 -- `open` of a vote's key meets its contract: the eight stores write the whole row.
 -- Assumes nothing.
 use mathlib.Core.List.{[], ◌∷◌}
-use native.Mathlib.Omega.{arith}
-use lib.ListN.{length-set}
 use Rattle.aggregator.specs.Tally.{new_vote}
 use Rattle.aggregator.proofs.Rows.{sets-whole}
 use Rattle.aggregator.proofs.tally.VoteKeyKey.open.Goals as goal
