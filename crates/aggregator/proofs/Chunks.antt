@@ -1,37 +1,32 @@
--- What an iterator over the rows of a table finds: `chunks_exact` with `position`, or with `any`. Nothing here knows what a row means. In order:
+-- What an iterator over the rows of a table finds: `chunks_exact` with `any`. Nothing here knows what a row means. In order:
 --     item-row, some_item     the items are the rows
---     chunks-position         the lowest row that passes
---     chunks-any              whether there is one
---     chunks-fold             a fold over the rows
+--     chunks-any              whether some row passes
 -- Assumes nothing.
-use Prim.Native.Nat.{ℕ, zero, suc, ◌+◌, ◌*◌, ◌/◌, ◌≤◌, ◌<◌}
+use Prim.Native.Nat.{ℕ, ◌+◌, ◌*◌, ◌/◌, ◌≤◌, ◌<◌}
 use mathlib.Core.Bool.{Bool, true, false}
 use mathlib.Core.List.{List}
 use mathlib.Core.Logic.{⊎_elim}
-use mathlib.Core.Path.{◌≡◌, refl, sym, ap, ◌∙◌}
+use mathlib.Core.Path.{◌≡◌, sym, ap, ◌∙◌}
 use native.Mathlib.Nat.{lt_of_mul-lt-mul_right, mul-div_cancel}
 use native.Mathlib.Omega.{arith}
 use denote.Param.Members.{Mut, Called}
 use denote.Ref.{Bor}
-use lib.ListN.{length, get_or, take}
-use Rattle.std.proofs.Common.{Option, Some, None, MatchOption, MatchBool, IsSomeAnd, is_some, fold}
+use lib.ListN.{length}
+use Rattle.std.proofs.Common.{Some, MatchBool, IsSomeAnd, is_some}
 use Rattle.std.proofs.iter.runs.Made.{at-is}
 use Rattle.std.proofs.lemmas.Option.{slice_get_cases}
-use Rattle.std.proofs.lemmas.List.Sums.{fold_more}
-use Rattle.std.proofs.Math.Seq.{take-length}
-use Rattle.std.specs.Iterator.{ActsAsOnTwo}
-use Rattle.std.specs.Iterator.Runs.{Run, SomeRun, WholeRun, EveryRun, IsChunksExactRun, CallKeepsClosure, AllItemsGive, AnyItemGives, IsFirstToGive}
+use Rattle.std.specs.Iterator.Runs.{Run, SomeRun, EveryRun, IsChunksExactRun, CallKeepsClosure, AllItemsGive, AnyItemGives}
 use Rattle.std.specs.Slice.Iter.{chunks_exact_rest, chunks_exact_size, chunks_exact_steps}
 use Rattle.std.specs.declared.slice.ChunksExact.{ChunksExact}
-use Rattle.aggregator.specs.Rows.{row, lowest, FoundAs}
-use Rattle.aggregator.proofs.Rows.{lowest-found, lowest-some, none-found}
+use Rattle.aggregator.specs.Rows.{row, lowest}
+use Rattle.aggregator.proofs.Rows.{lowest-some, none-found}
 
 module _ (p : Run (chunks_exact_steps {A = ℕ})) where
   item-row : (w : ℕ) (v : List ℕ) → IsChunksExactRun p w v → (k : ℕ) (x : Bor (List ℕ)) → p.at k ≡ Some x → (k * w + w ≤ length v) × (x.now ≡ row w v k)
   item-row w v cut k x e = let h = rw e at (cut.2 k) in (h.1, h.2.0)
 
-  some_item : (k : ℕ) → k < p.len → (x : Bor (List ℕ)) × (p.at k ≡ Some x) × (get_or p.items k x ≡ x)
-  some_item k l = ⊎_elim (λ h. (h.0, at-is p k ∙ h.2, h.3)) (λ h. absurd (omega (arith, p.long, h.0))) (slice_get_cases p.items k).1
+  some_item : (k : ℕ) → k < p.len → (x : Bor (List ℕ)) × (p.at k ≡ Some x)
+  some_item k l = ⊎_elim (λ h. (h.0, at-is p k ∙ h.2)) (λ h. absurd (omega (arith, p.long, h.0))) (slice_get_cases p.items k).1
 
   module _ (w n : ℕ) (v : List ℕ) (long : length v ≡ n * w) (wide : 0 < w) (cut : IsChunksExactRun p w v) where
     -- a run that is whole has every row
@@ -62,15 +57,6 @@ module _ (w n : ℕ) (v : List ℕ) (long : length v ≡ n * w) (wide : 0 < w) (
       let x = some_item p j (omega arith) in
       asked p e false j x.0 x.1 (rw x.1 (rw x.1 at (h same_closure j)))
 
-  pub chunks-position : (r : Option ℕ) → SomeRun (chunks_exact_steps {A = ℕ}) s (λ u. MatchOption r ((u.whole ≡ true) × AllItemsGive u g f false) (λ i. (u.len ≡ i + 1) × IsFirstToGive u g f true false i))
-      → FoundAs (lowest test w v n 0) n r
-  chunks-position None (p, e, h) = none-found test w v n (none_passes p e h.0 h.1)
-  chunks-position (Some i) (p, e, h) =
-      let x = some_item p i (omega (arith, h.0)) in
-      let first = h.1 same_closure in
-      lowest-found test w v n i (item_below p w n v long wide (cut p e) i x.0 x.1) (asked p e true i x.0 x.1 first.0)
-      (λ j l. let y = some_item p j (omega (arith, h.0)) in asked p e false j y.0 y.1 (first.1 j l))
-
   pub chunks-any : (r : Bool) → SomeRun (chunks_exact_steps {A = ℕ}) s (λ u. MatchBool r (AnyItemGives u g f true) ((u.whole ≡ true) × AllItemsGive u g f false))
       → r ≡ is_some (lowest test w v n 0)
   chunks-any true (p, e, h) =
@@ -78,22 +64,3 @@ module _ (w n : ℕ) (v : List ℕ) (long : length v ≡ n * w) (wide : 0 < w) (
       let x = some_item p a.0 a.1 in
       sym (lowest-some test w v n a.0 (item_below p w n v long wide (cut p e) a.0 x.0 x.1) (asked p e true a.0 x.0 x.1 a.2))
   chunks-any false (p, e, h) = rw (← (none-found test w v n (none_passes p e h.0 h.1)).is)
-
--- a fold over the rows that has come to `all i` before row i
-module _ (w n : ℕ) (v : List ℕ) (long : length v ≡ n * w) (wide : 0 < w) (h : ℕ → List ℕ → ℕ) (all : ℕ → ℕ) (more : (i : ℕ) → h (all i) (row w v i) ≡ all (i + 1)) where
-  so_far : (p : Run (chunks_exact_steps {A = ℕ})) → IsChunksExactRun p w v → (i : ℕ) → i ≤ p.len → fold (λ a (x : Bor (List ℕ)). h a x.now) (all 0) (take i p.items) ≡ all i
-  so_far p cut zero l = refl
-  so_far p cut (suc i) l =
-      let x = some_item p i (omega arith) in
-      let e : i + 1 ≡ suc i = omega arith in
-      rw (← e)
-      (fold_more (λ a (y : Bor (List ℕ)). h a y.now) (all 0) p.items i x.0 (omega (arith, p.long)) ∙
-      rw (x.2, so_far p cut i (omega arith), (item-row p w v cut i x.0 x.1).1) (more i))
-
-  pub chunks-fold : {F : Type 0} (g : Mut F (ℕ × (Bor (List ℕ) × Unit {0})) ℕ) (f : F) → ((a : ℕ) (x : Bor (List ℕ)) (b : ℕ) (q : F) → Called g f (a, (x, tt)) b q → (q ≡ f) × (b ≡ h a x.now)) → (s : ChunksExact ℕ)
-      → ((p : Run (chunks_exact_steps {A = ℕ})) → p.from ≡ s → IsChunksExactRun p w v) → (r : ℕ)
-      → WholeRun (chunks_exact_steps {A = ℕ}) s (λ p. (k : ℕ → Bor (List ℕ) → ℕ) → ActsAsOnTwo g f k → r ≡ fold k (all 0) p.items) → r ≡ all n
-  chunks-fold g f gives s cut r (p, e, whole, k) =
-      let l : p.len ≡ n = every p w n v long wide (cut p e) whole in
-      let to_end : take n p.items ≡ p.items = rw (← l, p.long) (take-length p.items) in
-      k (λ a x. h a x.now) gives ∙ rw (← to_end) (so_far p (cut p e) n (omega arith))

@@ -21,7 +21,7 @@ use native.Mathlib.Omega.{arith}
 use borrow.Author.Tests.{eqb-true}
 use borrow.Rule.Slice.PartMut.{put_mid}
 use lib.Bits.{bit_or}
-use lib.ListN.{length, take, drop, length-take, length-drop}
+use lib.ListN.{length, get_or, take, drop, length-take, length-drop}
 use lib.Seq.{drop-drop, drop_at, take-add, length-take-le}
 use Rattle.certificates.specs.declared.numbers.Signers.{Signers}
 use Rattle.aggregator.specs.declared.tallies.Added.{Added}
@@ -30,7 +30,7 @@ use Rattle.aggregator.specs.Rows.{zeros, row, with_row, FoundAs}
 use Rattle.aggregator.specs.Tally.{fields, places, vote_width, timeout_width, used_of, round_of, weight_of, names_of, is_free, is_heavy, kept, has_name, with_author, counted, answer_of, AddedAs}
 use Rattle.aggregator.specs.Tallies.{vote_tallies, timeout_tallies, timeouts_length, total_max, find_row, find_free, find_heavy, heavy, any_heavy, Light, joined, dropped, first_of, place_for, opened, table_for, TallyFor, Countable, answer_at, table_at, added, after, highs_at, HighsAs}
 use Rattle.aggregator.specs.Keys.{Keyed}
-use Rattle.aggregator.proofs.Rows.{none_found, part-row, put_as, row_within, lowest-below, lowest-holds, none-lowest, with_row-same, with_row-row, with_row-length, with_row-each, map_rows-row, zeros-row}
+use Rattle.aggregator.proofs.Rows.{none_found, part-row, put_as, row_at, row_within, lowest-below, lowest-holds, none-lowest, with_row-same, with_row-row, with_row-length, with_row-each, map_rows-row, zeros-row}
 use Rattle.aggregator.proofs.TallyLaws.{heavy-under, used-has, answer-some, answer-row, kept-length, kept-used, name-none}
 
 -- ---- the tally that a test asks for
@@ -203,10 +203,14 @@ module _ (test : List ℕ → Bool) (new : List ℕ) (w n : ℕ) (v : List ℕ) 
 
 -- ---- the ways of `weights_of`
 
--- one weight more
-pub joined-more : (w i : ℕ) (v : List ℕ) → bit_or (joined w i v) (weight_of (row w v i)) ≡ joined w (i + 1) v
+pub joined-none : (w : ℕ) (v : List ℕ) → 0 ≡ joined w 0 v
 unfolding joined
-joined-more w i v = rw add-one
+joined-none w v = refl
+
+-- one weight more
+pub joined-more : (w i : ℕ) (v : List ℕ) {all : ℕ} → fields ≤ w → all ≡ joined w i v → bit_or all (get_or v (i * w + 2) 0) ≡ joined w (i + 1) v
+unfolding joined
+joined-more w i v wide h = rw (h, ← row_at w i 2 v (omega arith), add-one)
 
 -- no weight is above it
 joined-above : (w n i : ℕ) (v : List ℕ) → i < n → weight_of (row w v i) ≤ joined w n v

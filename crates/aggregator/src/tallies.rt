@@ -43,7 +43,15 @@ fn find<K: Key>(table: &[u64], key: K) -> Option<usize>
     requires { length table.now ≡ K.TALLIES * K.WIDTH }
     ensures { FoundAs (find_row (K.test key) K.WIDTH K.TALLIES table.now) K.TALLIES result }
 {
-    table.chunks_exact(K::WIDTH).position(|t| key.is_of(t))
+    // `chunks_exact` with `position` is slower.
+    for i in 0..K::TALLIES {
+        let from = i * K::WIDTH;
+        let to = from + K::WIDTH;
+        if key.is_of(&table[from..to]) {
+            return Some(i);
+        }
+    }
+    None
 }
 
 // The lowest tally that is not in use.
@@ -51,7 +59,13 @@ fn find_free<K: Key>(table: &[u64]) -> Option<usize>
     requires { length table.now ≡ K.TALLIES * K.WIDTH }
     ensures { FoundAs (find_free K.WIDTH K.TALLIES table.now) K.TALLIES result }
 {
-    table.chunks_exact(K::WIDTH).position(|t| t[USED] == 0)
+    // As in `find`.
+    for i in 0..K::TALLIES {
+        if table[i * K::WIDTH + USED] == 0 {
+            return Some(i);
+        }
+    }
+    None
 }
 
 // The tally in row i opened for the key.
@@ -181,9 +195,12 @@ fn weights_of<K: Key>(table: &[u64]) -> u64
     requires { length table.now ≡ K.TALLIES * K.WIDTH }
     ensures { result ≡ joined K.WIDTH K.TALLIES table.now }
 {
-    table
-        .chunks_exact(K::WIDTH)
-        .fold(0, |all, t| all | t[WEIGHT])
+    // Every event asks for it, and `chunks_exact` with `fold` is slower.
+    let mut all = 0;
+    for i in 0..K::TALLIES {
+        all |= table[i * K::WIDTH + WEIGHT];
+    }
+    all
 }
 
 // Whether some tally in use is heavier than the total.
