@@ -190,20 +190,23 @@ pub fn cleanup_timeouts(timeouts: &mut [u64], round: Round)
     cleanup(timeouts, TIMEOUT_WIDTH, TIMEOUT_TALLIES, round);
 }
 
-// Every bit that the weight of some tally has.
-fn weights_of<K: Key>(table: &[u64]) -> u64
-    requires { length table.now ≡ K.TALLIES * K.WIDTH }
-    ensures { result ≡ joined K.WIDTH K.TALLIES table.now }
+// Every bit that the weight of some of n tallies has, each w wide. Every event asks for it: over a
+// `K: Key`, and by `chunks_exact` with `fold`, it is slower.
+fn weights_of(v: &[u64], w: usize, n: usize) -> u64
+    requires { (fields ≤ w) × (n * w ≤ length v.now) }
+    ensures { result ≡ joined w n v.now }
 {
-    // Every event asks for it, and `chunks_exact` with `fold` is slower.
     let mut all = 0;
-    for i in 0..K::TALLIES {
-        all |= table[i * K::WIDTH + WEIGHT];
+    for i in 0..n {
+        all |= v[i * w + WEIGHT];
     }
     all
 }
 
-// Whether some tally in use is heavier than the total.
+// Whether some tally in use is heavier than the total. It is hardly ever asked, and inlined it would
+// slow down what is asked on every event.
+#[cold]
+#[inline(never)]
 fn is_any_heavy<K: Key>(table: &[u64], total: Stake) -> bool
     requires { length table.now ≡ K.TALLIES * K.WIDTH }
     ensures { result ≡ heavy K.WIDTH K.TALLIES table.now total.0 }
@@ -217,8 +220,8 @@ pub fn are_light(votes: &[u64], timeouts: &[u64], total: Stake) -> bool
     requires { (length votes.now ≡ votes_length) × (length timeouts.now ≡ timeouts_length) }
     ensures { result ≡ not (any_heavy votes.now timeouts.now total.0) }
 {
-    let of_votes = weights_of::<VoteKey>(votes);
-    let of_timeouts = weights_of::<TimeoutKey>(timeouts);
+    let of_votes = weights_of(votes, VOTE_WIDTH, VOTE_TALLIES);
+    let of_timeouts = weights_of(timeouts, TIMEOUT_WIDTH, TIMEOUT_TALLIES);
     if of_votes | of_timeouts <= (total.0 as u64) {
         return true;
     }

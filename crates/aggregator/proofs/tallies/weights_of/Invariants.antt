@@ -5,4 +5,4 @@ use Rattle.aggregator.specs.Tallies.{joined}
 use Rattle.aggregator.proofs.tallies.weights_of.Given as goal
 
 abbrev pub invariant-loop-i : goal.invariant-loop-i
-invariant-loop-i g l = l.all ≡ joined g.K.Key.WIDTH l.i l.table
+invariant-loop-i l = l.all ≡ joined l.w l.i l.v
