@@ -9,6 +9,7 @@ use Prim.Native.Nat.{ℕ, suc, ◌+◌, ◌*◌, ◌≤◌, ◌<◌}
 use mathlib.Core.Bool.{Bool, true, false, cond}
 use mathlib.Core.List.{List}
 use mathlib.Core.Logic.{◌⊎◌, inl, inr, by_cases}
+use Rattle.std.proofs.Common.{Option, Some, None}
 use mathlib.Core.Path.{◌≡◌, refl, sym, ap, ◌∙◌}
 use native.Mathlib.Decide.{ℕ_discrete}
 use native.Mathlib.Omega.{arith}
@@ -19,13 +20,11 @@ use Rattle.certificates.specs.declared.numbers.Hash.{Hash}
 use Rattle.certificates.specs.declared.numbers.Signers.{Signers}
 use Rattle.aggregator.specs.declared.tallies.Added.{Added}
 use Rattle.aggregator.specs.declared.tallies.Added.TheVariants.{NoRoom, Used, More, Full}
-use Rattle.aggregator.specs.declared.tallies.Found.{Found}
-use Rattle.aggregator.specs.declared.tallies.Found.TheVariants.{At, Nothing}
 use Rattle.aggregator.specs.Rows.{row, with_row}
 use Rattle.aggregator.specs.Tally.{vote_width, timeout_width, used_of, weight_of, names_of, is_vote, of_round, new_vote, new_timeout, has_name, with_name, signers, with_high, no_high, with_author, answer_of}
 use Rattle.aggregator.specs.Tallies.{vote_tallies, timeout_tallies, votes_length, timeouts_length, Light, place_for, table_for, TallyFor, answer_at, table_at, added, after, vote_added, votes_after, timeout_added, timeouts_after}
 use Rattle.aggregator.proofs.Rows.{row-length, row_within, with_row-row, with_row-length, with_row-other}
-use Rattle.aggregator.proofs.TallyLaws.{name-with, author-length, author-names, author-weight, Kind, vote-kind, timeout-kind}
+use Rattle.aggregator.proofs.TallyLaws.{name-with, author-length, author-names, author-weight, Kind, kind-keyed, vote-kind, timeout-kind}
 use Rattle.aggregator.proofs.TableLaws.{tally-for, Stands, was-there, was-new, tally-stands, tally-passes, tally-length, Each}
 
 -- The author p is counted in the tally t, which was there or is new: v' has it in row i, and is otherwise v.
@@ -55,7 +54,7 @@ pub record Filled (test : List ℕ → Bool) (new : List ℕ) (mark : List ℕ �
   pub word : s.0 ≡ names_of (row w v' i)
 
 module _ {test : List ℕ → Bool} {new : List ℕ} {mark : List ℕ → List ℕ} {w n : ℕ} (k : Kind test new mark w) (v : List ℕ) (l : n * w ≤ length v) (p stake need : ℕ) where
-  module _ (i : ℕ) (o : List ℕ) (t : TallyFor test new w n v (At i) o) where
+  module _ (i : ℕ) (o : List ℕ) (t : TallyFor test new w n v (Some i) o) where
     rows-as-were : Stands test new w v i o → (j : ℕ) → (j ≡ i → ⊥) → row w o j ≡ row w v j
     rows-as-were (was-there a b) j h = ap (λ (x : List ℕ). row w x j) a
     rows-as-were (was-new a b d) j h = ap (λ (x : List ℕ). row w x j) a ∙ with_row-other w new k.size i v (row_within w i n v (t.below i refl) l) j h
@@ -67,7 +66,7 @@ module _ {test : List ℕ → Bool} {new : List ℕ} {mark : List ℕ → List �
     once-counted : has_name (names_of (row w o i)) p ≡ false → Counted test new mark w n v p stake need i (row w o i) (with_row w o i (with_author mark (row w o i) p stake need))
     once-counted h =
         let b : i < n = t.below i refl in
-        let s : length o ≡ length v = tally-length k l t in
+        let s : length o ≡ length v = tally-length (kind-keyed k) l t in
         let m : n * w ≤ length o = omega arith in
         let at : i * w + w ≤ length o = row_within w i n o b m in
         let z : length (row w o i) ≡ w = row-length w i o at in
@@ -76,11 +75,11 @@ module _ {test : List ℕ → Bool} {new : List ℕ} {mark : List ℕ → List �
         record {
           below = b;
           size = z;
-          passes = tally-passes k l t;
-          stood = stood-as (tally-stands k l t);
+          passes = tally-passes (kind-keyed k) l t;
+          stood = stood-as (tally-stands (kind-keyed k) l t);
           fresh = h;
           here = with_row-row w i o u r at;
-          others = λ j q. with_row-other w u r i o at j q ∙ rows-as-were (tally-stands k l t) j q;
+          others = λ j q. with_row-other w u r i o at j q ∙ rows-as-were (tally-stands (kind-keyed k) l t) j q;
           long = with_row-length w i o u r at ∙ s;
         }
 
@@ -88,16 +87,16 @@ module _ {test : List ℕ → Bool} {new : List ℕ} {mark : List ℕ → List �
   unfolding added after answer_of
   addition = at (place_for test w n v) refl
     where
-      in-tally : (i : ℕ) → TallyFor test new w n v (At i) (table_for test new w n v) → (b d : Bool) → b ≡ has_name (names_of (row w (table_for test new w n v) i)) p → d ≡ ltb (weight_of (row w (table_for test new w n v) i) + stake) need
+      in-tally : (i : ℕ) → TallyFor test new w n v (Some i) (table_for test new w n v) → (b d : Bool) → b ≡ has_name (names_of (row w (table_for test new w n v) i)) p → d ≡ ltb (weight_of (row w (table_for test new w n v) i) + stake) need
           → Addition test new mark w n v p stake need (cond b Used (cond d More (Full i (signers (with_name (names_of (row w (table_for test new w n v) i)) p)))))
           (cond b v (with_row w (table_for test new w n v) i (with_author mark (row w (table_for test new w n v) i) p stake need)))
       in-tally i t true d e f = used refl refl
       in-tally i t false true e f = more i _ (once-counted i (table_for test new w n v) t (sym e)) refl (ltb-true _ _ (sym f))
       in-tally i t false false e f = full i _ (once-counted i (table_for test new w n v) t (sym e)) refl (ltb-false _ _ (sym f))
 
-      at : (f : Found) → place_for test w n v ≡ f → Addition test new mark w n v p stake need (answer_at w (table_for test new w n v) p stake need f) (table_at mark w v (table_for test new w n v) p stake need f)
-      at Nothing e = no_row refl refl
-      at (At i) e = in-tally i (rw e at (tally-for test new w n v)) _ _ refl refl
+      at : (f : Option ℕ) → place_for test w n v ≡ f → Addition test new mark w n v p stake need (answer_at w (table_for test new w n v) p stake need f) (table_at mark w v (table_for test new w n v) p stake need f)
+      at None e = no_row refl refl
+      at (Some i) e = in-tally i (rw e at (tally-for test new w n v)) _ _ refl refl
 
 pub vote-addition : (votes : List ℕ) (round : ℕ) (hash : Hash) (p stake need : ℕ) → length votes ≡ votes_length
     → Addition (is_vote round hash) (new_vote round hash) no_high vote_width vote_tallies votes p stake need (vote_added votes round hash p stake need) (votes_after votes round hash p stake need)

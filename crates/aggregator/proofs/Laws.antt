@@ -11,6 +11,7 @@ use Prim.Native.Nat.{ℕ, suc, ◌+◌, ◌*◌, ◌≤◌, ◌<◌}
 use mathlib.Core.Bool.{Bool, true, false}
 use mathlib.Core.List.{List}
 use mathlib.Core.Logic.{◌⊎◌}
+use Rattle.std.proofs.Common.{Option, Some, None, is_some}
 use mathlib.Core.Path.{◌≡◌, refl, sym, ◌∙◌}
 use native.Mathlib.Omega.{arith}
 use borrow.Author.Tests.{eq-eqb, ne_eqb, le-ltb, ltb-false}
@@ -21,11 +22,9 @@ use Rattle.certificates.specs.declared.numbers.Hash.{Hash}
 use Rattle.certificates.specs.declared.numbers.Signers.{Signers}
 use Rattle.aggregator.specs.declared.tallies.Added.{Added}
 use Rattle.aggregator.specs.declared.tallies.Added.TheVariants.{NoRoom, Used, Full}
-use Rattle.aggregator.specs.declared.tallies.Found.{Found}
-use Rattle.aggregator.specs.declared.tallies.Found.TheVariants.{At, Nothing}
 use Rattle.aggregator.specs.Rows.{zeros, row}
 use Rattle.aggregator.specs.Tally.{fields, places, vote_width, timeout_width, used_of, weight_of, is_vote, of_round, is_heavy, heavy_with, kept, new_vote, new_timeout, with_high, no_high, AddedAs}
-use Rattle.aggregator.specs.Tallies.{vote_tallies, timeout_tallies, votes_length, timeouts_length, total_max, find_row, find_heavy, is_at, heavy, Light, dropped, Countable, vote_added, votes_after, timeout_added, timeouts_after, highs_at}
+use Rattle.aggregator.specs.Tallies.{vote_tallies, timeout_tallies, votes_length, timeouts_length, total_max, find_row, find_heavy, heavy, Light, dropped, Countable, vote_added, votes_after, timeout_added, timeouts_after, highs_at}
 use Rattle.aggregator.proofs.Rows.{lowest-none, none-lowest, map_rows-length, map_rows-same, zeros-row}
 use Rattle.aggregator.proofs.TallyLaws.{keep-free, kept-length, vote-kind, timeout-kind}
 use Rattle.aggregator.proofs.TableLaws.{added-no-room, added-used, added-below, each-zeros, each-dropped}
@@ -43,9 +42,9 @@ dropped-zeros w n m round h = map_rows-same (kept round) w n (zeros m) (λ i b. 
 
 -- ---- no tally in use is heavier than the total
 
-none-at : (f : Found) → is_at f ≡ false → f ≡ Nothing
-none-at (At i) e = absurd (let z : ◌≡◌ {A = ℕ} 0 1 = cc in omega arith)
-none-at Nothing e = refl
+none-at : (f : Option ℕ) → is_some f ≡ false → f ≡ None
+none-at (Some i) e = absurd (let z : ◌≡◌ {A = ℕ} 0 1 = cc in omega arith)
+none-at None e = refl
 
 used-heavy : (used weight total : ℕ) → (used ≡ 0 → ⊥) → heavy_with used weight total ≡ false → weight ≤ total
 used-heavy used weight total u e = ltb-false _ _ (rw (ne_eqb _ _ u) at e)

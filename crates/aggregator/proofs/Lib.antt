@@ -1,5 +1,6 @@
 -- the laws that belong to no one function
 pub mod Rows
+pub mod Chunks
 pub mod TallyLaws
 pub mod TableLaws
 pub mod Additions

@@ -1,6 +1,5 @@
 -- Laws of a table that lies in one list, row after row. Nothing here knows what a row means. In order:
---     Scanned, scan-...      a search that has come to row i, and its ways on
---     lowest-...             what a search says of the rows
+--     lowest-..., none...    what a search says of the rows
 --     part-..., put-...      a row that is lent as a part, and the table once it is back
 --     row-...                the numbers and the place of a row
 --     Mapped, map-...        a table of which i rows are replaced
@@ -13,8 +12,9 @@ use Prim.Native.Nat.{ℕ, zero, suc, ◌+◌, ◌-◌, ◌*◌, ◌%◌, ◌^◌
 use mathlib.Core.Bool.{Bool, true, false, cond}
 use mathlib.Core.List.{List, [], ◌++◌, append_assoc, append-nil}
 use mathlib.Core.Logic.{⊎_elim}
+use Rattle.std.proofs.Common.{Option, Some, None, is_some, below_more}
 use mathlib.Core.Path.{◌≡◌, refl, ap, sym, ◌∙◌}
-use native.Mathlib.Nat.{zero-mul, suc-mul, add_comm, add-zero, mul-le-mul_right, one-mul, eq-or-lt_of_le}
+use native.Mathlib.Nat.{zero-mul, suc-mul, add_comm, mul-le-mul_right, one-mul, eq-or-lt_of_le}
 use native.Mathlib.Numerals.{add-one}
 use native.Mathlib.Omega.{arith}
 use borrow.Rule.Slice.PartMut.{put_mid}
@@ -22,85 +22,90 @@ use lib.Dec.{lit<}
 use lib.Pow.{shl_exact}
 use lib.ListN.{length, get_or, take, drop, length-append, length-take, length-drop, drop_of_length-le, take-append-drop}
 use lib.Seq.{take-append-add, drop-append-add, get_or-take, get_or-drop, sets, sets-eq, take_at, drop_at, drop-drop, length-take-le}
-use Rattle.aggregator.specs.declared.tallies.Found.{Found}
-use Rattle.aggregator.specs.declared.tallies.Found.TheVariants.{At, Nothing}
 use Rattle.aggregator.specs.Rows.{zeros, row, with_row, lowest, map_rows, FoundAs}
 
 -- ---- a search
 
--- r, what all n rows give, is what the rows from i on give
-pub record Scanned (p : List ℕ → Bool) (w : ℕ) (v : List ℕ) (n i : ℕ) (r : Found) : Type 0 where
-  pub rest : r ≡ lowest p w v (n - i) i
-
-pub scan-start : (p : List ℕ → Bool) (w : ℕ) (v : List ℕ) (n : ℕ) → Scanned p w v n 0 (lowest p w v n 0)
-scan-start p w v n = let e : n - 0 ≡ n = omega arith in record { rest = rw e }
-
-module _ {p : List ℕ → Bool} {w : ℕ} {v : List ℕ} {n i : ℕ} {r : Found} (s : Scanned p w v n i r) where
-  pub scan-hit : i < n → p (row w v i) ≡ true → FoundAs r n (At i)
-  scan-hit h e =
-      let m : n - i ≡ suc (n - (i + 1)) = omega arith in
-      record {
-        is = rw (s.rest, m, e);
-        below = λ j q. let z : i ≡ j = cc in omega arith;
-      }
-
-  pub scan-miss : i < n → p (row w v i) ≡ false → Scanned p w v n (i + 1) r
-  scan-miss h e =
-      let m : n - i ≡ suc (n - (i + 1)) = omega arith in
-      record { rest = rw (s.rest, m, e, add-one) }
-
-  pub scan-end : n ≤ i → FoundAs r n Nothing
-  scan-end h =
-      let m : n - i ≡ 0 = omega arith in
-      record {
-        is = rw (s.rest, m);
-        below = λ j q. let z : ◌≡◌ {A = ℕ} 0 1 = cc in omega arith;
-      }
-
-  -- past the last row there is nothing to be found
-  pub scan-past : n ≤ i → Scanned p w v n (i + 1) r
-  scan-past h =
-      let m : n - i ≡ 0 = omega arith in
-      let k : n - (i + 1) ≡ 0 = omega arith in
-      record { rest = rw (s.rest, m, k) }
-
-pub found_below : {f r : Found} {n i : ℕ} → FoundAs f n r → r ≡ At i → i < n
-found_below a e = a.below _ e
+-- where no row is found there is none
+pub none_found : (r : Option ℕ) → ((i : ℕ) → r ≡ Some i → ⊥) → r ≡ None
+none_found (Some i) h = absurd (h i refl)
+none_found None h = refl
 
 module _ (p : List ℕ → Bool) (w : ℕ) (v : List ℕ) where
-  below-cond : (b : Bool) (k i n : ℕ) (f : Found) → (f ≡ At i → i < suc k + n) → cond b (At k) f ≡ At i → i < k + suc n
+  below-cond : (b : Bool) (k i n : ℕ) (f : Option ℕ) → (f ≡ Some i → i < suc k + n) → cond b (Some k) f ≡ Some i → i < k + suc n
   below-cond true k i n f h e = let z : k ≡ i = cc in omega arith
   below-cond false k i n f h e = omega (arith, h e)
 
   -- what is found is one of the rows
-  pub lowest-below : (n k i : ℕ) → lowest p w v n k ≡ At i → i < k + n
+  pub lowest-below : (n k i : ℕ) → lowest p w v n k ≡ Some i → i < k + n
   lowest-below zero k i e = let z : ◌≡◌ {A = ℕ} 0 1 = cc in omega arith
   lowest-below (suc n) k i e = below-cond (p (row w v k)) k i n (lowest p w v n (suc k)) (lowest-below n (suc k) i) e
 
-  hit : (b : Bool) (k i : ℕ) (f : Found) → b ≡ p (row w v k) → (f ≡ At i → p (row w v i) ≡ true) → cond b (At k) f ≡ At i → p (row w v i) ≡ true
+  hit : (b : Bool) (k i : ℕ) (f : Option ℕ) → b ≡ p (row w v k) → (f ≡ Some i → p (row w v i) ≡ true) → cond b (Some k) f ≡ Some i → p (row w v i) ≡ true
   hit true k i f e h q = let z : k ≡ i = cc in rw (← z) (sym e)
   hit false k i f e h q = h q
 
   -- and passes
-  pub lowest-holds : (n k i : ℕ) → lowest p w v n k ≡ At i → p (row w v i) ≡ true
+  pub lowest-holds : (n k i : ℕ) → lowest p w v n k ≡ Some i → p (row w v i) ≡ true
   lowest-holds zero k i e = absurd (let z : ◌≡◌ {A = ℕ} 0 1 = cc in omega arith)
   lowest-holds (suc n) k i e = hit (p (row w v k)) k i (lowest p w v n (suc k)) refl (lowest-holds n (suc k) i) e
 
-  miss : (b : Bool) (k : ℕ) (f : Found) → cond b (At k) f ≡ Nothing → (b ≡ false) × (f ≡ Nothing)
+  miss : (b : Bool) (k : ℕ) (f : Option ℕ) → cond b (Some k) f ≡ None → (b ≡ false) × (f ≡ None)
   miss true k f q = absurd (let z : ◌≡◌ {A = ℕ} 0 1 = cc in omega arith)
   miss false k f q = (refl, q)
 
   -- where none is found, none passes
-  pub lowest-none : (n k i : ℕ) → lowest p w v n k ≡ Nothing → k ≤ i → i < k + n → p (row w v i) ≡ false
+  pub lowest-none : (n k i : ℕ) → lowest p w v n k ≡ None → k ≤ i → i < k + n → p (row w v i) ≡ false
   lowest-none zero k i e a b = absurd (omega arith)
   lowest-none (suc n) k i e a b =
       let m = miss (p (row w v k)) k (lowest p w v n (suc k)) e in
       ⊎_elim (λ (z : k ≡ i). rw (← z) m.0) (λ (z : k < i). lowest-none n (suc k) i m.1 (omega arith) (omega arith)) (eq-or-lt_of_le a)
 
   -- where none passes, none is found
-  pub none-lowest : (n k : ℕ) → ((i : ℕ) → k ≤ i → i < k + n → p (row w v i) ≡ false) → lowest p w v n k ≡ Nothing
+  pub none-lowest : (n k : ℕ) → ((i : ℕ) → k ≤ i → i < k + n → p (row w v i) ≡ false) → lowest p w v n k ≡ None
   none-lowest zero k h = refl
   none-lowest (suc n) k h = rw (h k (omega arith) (omega arith)) (none-lowest n (suc k) (λ i a b. h i (omega arith) (omega arith)))
+
+  -- the first that passes is found
+  pub lowest-is : (n k i : ℕ) → k ≤ i → i < k + n → p (row w v i) ≡ true → ((j : ℕ) → k ≤ j → j < i → p (row w v j) ≡ false) → lowest p w v n k ≡ Some i
+  lowest-is zero k i a b h none = absurd (omega arith)
+  lowest-is (suc n) k i a b h none =
+      ⊎_elim (λ (z : k ≡ i). rw (z, h)) (λ (z : k < i). rw (none k (omega arith) z) (lowest-is n (suc k) i (omega arith) (omega arith) h (λ j c d. none j (omega arith) d))) (eq-or-lt_of_le a)
+
+-- a row of the table
+pub lowest-found : (p : List ℕ → Bool) (w : ℕ) (v : List ℕ) (n i : ℕ) → i < n → p (row w v i) ≡ true → ((j : ℕ) → j < i → p (row w v j) ≡ false) → FoundAs (lowest p w v n 0) n (Some i)
+lowest-found p w v n i l h none = record { is = sym (lowest-is p w v n 0 i (omega arith) (omega arith) h (λ j a b. none j b)); below = λ j q. let z : i ≡ j = cc in omega arith }
+
+-- a row that passes is found, or one below it
+pub lowest-some : (p : List ℕ → Bool) (w : ℕ) (v : List ℕ) (n i : ℕ) → i < n → p (row w v i) ≡ true → is_some (lowest p w v n 0) ≡ true
+lowest-some p w v n i l h = cases (lowest p w v n 0) refl
+  where
+    cases : (r : Option ℕ) → lowest p w v n 0 ≡ r → is_some r ≡ true
+    cases (Some j) e = refl
+    cases None e = absurd (let y : ◌≡◌ {A = Bool} true false = sym h ∙ lowest-none p w v n 0 i e (omega arith) (omega arith) in let z : ◌≡◌ {A = ℕ} 0 1 = cc in omega arith)
+
+-- where no row of the table passes
+pub none-found : (p : List ℕ → Bool) (w : ℕ) (v : List ℕ) (n : ℕ) → ((j : ℕ) → j < n → p (row w v j) ≡ false) → FoundAs (lowest p w v n 0) n None
+none-found p w v n h = record { is = sym (none-lowest p w v n 0 (λ j a b. h j (omega arith))); below = λ j q. let z : ◌≡◌ {A = ℕ} 0 1 = cc in omega arith }
+
+-- no row before row i passes
+pub record Missed (p : List ℕ → Bool) (w : ℕ) (v : List ℕ) (i : ℕ) : Type 0 where
+  pub none : (j : ℕ) → j < i → p (row w v j) ≡ false
+
+module _ (p : List ℕ → Bool) (w : ℕ) (v : List ℕ) where
+  pub missed-start : Missed p w v 0
+  missed-start = record { none = λ j l. absurd (omega arith) }
+
+  module _ {i : ℕ} (m : Missed p w v i) where
+    pub missed-more : p (row w v i) ≡ false → Missed p w v (i + 1)
+    missed-more e = record { none = below_more _ _ m.none e }
+
+    module _ (n : ℕ) where
+      pub missed-hit : i < n → p (row w v i) ≡ true → FoundAs (lowest p w v n 0) n (Some i)
+      missed-hit l e = lowest-found p w v n i l e m.none
+
+      pub missed-end : n ≤ i → FoundAs (lowest p w v n 0) n None
+      missed-end l = none-found p w v n (λ j h. m.none j (omega arith))
 
 -- ---- a row that is lent as a part
 
@@ -115,14 +120,6 @@ put-row w i v r = let e : i * w + w - i * w ≡ w = omega arith in rw e
 pub put_as : (w i : ℕ) (v : List ℕ) {r s : List ℕ} → r ≡ s → put_mid (i * w) (i * w + w - i * w) v r ≡ with_row w v i s
 put_as w i v {r} e = put-row w i v r ∙ ap (λ (t : List ℕ). with_row w v i t) e
 
--- a search whose test is of the part
-module _ {p : List ℕ → Bool} {w : ℕ} {v : List ℕ} {n i : ℕ} {r : Found} {b : Bool} (s : Scanned p w v n i r) (h : i < n) (is : b ≡ p (take (i * w + w - i * w) (drop (i * w) v))) where
-  pub part-hit : b ≡ true → FoundAs r n (At i)
-  part-hit e = scan-hit s h (rw (← part-row w i v) (sym is ∙ e))
-
-  pub part-miss : b ≡ false → Scanned p w v n (i + 1) r
-  part-miss e = scan-miss s h (rw (← part-row w i v) (sym is ∙ e))
-
 -- ---- a row
 
 pub row-length : (w i : ℕ) (v : List ℕ) → i * w + w ≤ length v → length (row w v i) ≡ w
@@ -131,9 +128,6 @@ row-length w i v h = rw (length-take, length-drop) (omega arith)
 -- a row's numbers, as they lie in the table
 pub row_at : (w i k : ℕ) (v : List ℕ) → k < w → get_or (row w v i) k 0 ≡ get_or v (i * w + k) 0
 row_at w i k v h = rw (get_or-take, get_or-drop)
-
-pub row_first : (w i : ℕ) (v : List ℕ) → 0 < w → get_or (row w v i) 0 0 ≡ get_or v (i * w) 0
-row_first w i v h = rw (get_or-take, get_or-drop, add-zero)
 
 -- the rows below n lie below n * w
 pub row-end : (w i n : ℕ) → i < n → i * w + w ≤ n * w
@@ -195,9 +189,6 @@ map_rows-same f w (suc n) v h =
     rw (first, rest) (take-append-drop w v)
 
 module _ {f : List ℕ → List ℕ} {w : ℕ} {v k : List ℕ} {i : ℕ} (same : (t : List ℕ) → length (f t) ≡ length t) (m : Mapped f w v i k) where
-  pub map-length : length k ≡ length v
-  map-length = rw m.is (map_rows-length f same w i v)
-
   -- a turn that replaces row i by r, which is f of it
   pub map-store : (r : List ℕ) → i * w + w ≤ length v → r ≡ f (row w k i) → Mapped f w v (i + 1) (with_row w k i r)
   map-store r h e =

@@ -1,11 +1,10 @@
 -- Laws of a table of tallies, of either kind. In order:
---     row-start, free-..., of-..., heavy-...     the ways of the searches that look at a tally's numbers where they lie
 --     tally-found, tally-opened, tally-none      the three ways to the tally that a test asks for
 --     tally-...                                  what is then known of that tally
 --     append-part                                an author counted in a row that is lent as a part
---     added-vote-..., added-timeout-...          the ways out of `add_vote` and `add_timeout`, and what they ask on the way
+--     add-...                                    the ways out of `add`, and what it asks on the way
 --     added-no-room, added-used, added-below     what an answer says
---     joined-..., look-..., are-light-...        the ways of `weights_of`, `any_heavy` and `are_light`
+--     joined-..., heavy-never, are-light-...     the ways of `weights_of` and `are_light`
 --     highs-...                                  the high rounds
 --     Each, each-...                             what holds of every tally in use, and goes on to hold
 -- Assumes nothing.
@@ -13,95 +12,57 @@ use Prim.Native.Nat.{ℕ, zero, suc, ◌+◌, ◌-◌, ◌*◌, ◌≤◌, ◌<�
 use mathlib.Core.Bool.{Bool, true, false, not, cond, ◌||◌}
 use mathlib.Core.List.{List}
 use mathlib.Core.Logic.{⊎_elim}
+use Rattle.std.proofs.Common.{Option, Some, None}
+use Rattle.std.proofs.lemmas.Nat.{le_or_l, le_or_r}
 use mathlib.Core.Path.{◌≡◌, refl, sym, ap, ◌∙◌}
 use native.Mathlib.Nat.{eq-or-lt_of_le}
 use native.Mathlib.Numerals.{add-one}
 use native.Mathlib.Omega.{arith}
-use borrow.Author.Tests.{eq-eqb, ne_eqb, eqb-true}
+use borrow.Author.Tests.{eqb-true}
 use borrow.Rule.Slice.PartMut.{put_mid}
-use lib.Bits.{bit_or, or_add_and, and_le_l, and_le_r}
+use lib.Bits.{bit_or}
 use lib.ListN.{length, get_or, take, drop, length-take, length-drop}
 use lib.Seq.{drop-drop, drop_at, take-add, length-take-le}
-use Rattle.certificates.specs.declared.numbers.Hash.{Hash}
 use Rattle.certificates.specs.declared.numbers.Signers.{Signers}
 use Rattle.aggregator.specs.declared.tallies.Added.{Added}
 use Rattle.aggregator.specs.declared.tallies.Added.TheVariants.{NoRoom, Used, Full}
-use Rattle.aggregator.specs.declared.tallies.Found.{Found}
-use Rattle.aggregator.specs.declared.tallies.Found.TheVariants.{At, Nothing}
 use Rattle.aggregator.specs.Rows.{zeros, row, with_row, FoundAs}
-use Rattle.aggregator.specs.Tally.{fields, places, vote_width, timeout_width, used_of, round_of, weight_of, names_of, is_free, is_vote, round_with, of_round, heavy_with, is_heavy, kept, new_vote, new_timeout, has_name, no_high, with_high, with_author, counted, answer_of, AddedAs}
-use Rattle.aggregator.specs.Tallies.{vote_tallies, timeout_tallies, timeouts_length, total_max, find_row, find_free, find_heavy, heavy, any_heavy, Light, joined, dropped, first_of, place_for, opened, table_for, TallyFor, Countable, answer_at, table_at, added, after, vote_added, votes_after, timeout_added, timeouts_after, highs_at, HighsAs}
-use Rattle.aggregator.proofs.Rows.{part-row, put_as, row_first, row_at, row_within, Scanned, scan-start, scan-hit, scan-miss, scan-end, scan-past, lowest-below, lowest-holds, none-lowest, with_row-same, with_row-row, with_row-length, with_row-each, map_rows-row, zeros-row}
-use Rattle.aggregator.proofs.TallyLaws.{heavy-under, used-has, answer-some, answer-row, kept-length, kept-used, name-none, Kind, vote-kind, timeout-kind}
-
--- ---- the searches that look at a tally's numbers where they lie
-
-module _ (w n : ℕ) (v : List ℕ) where
-  pub row-start : (test : List ℕ → Bool) → Scanned test w v n 0 (find_row test w n v)
-  unfolding find_row
-  row-start test = scan-start test w v n
-
-  pub free-start : Scanned is_free w v n 0 (find_free w n v)
-  unfolding find_free
-  free-start = row-start is_free
-
-  pub heavy-start : (total : ℕ) → Scanned (is_heavy total) w v n 0 (find_heavy w n v total)
-  unfolding find_heavy
-  heavy-start total = row-start (is_heavy total)
-
-module _ {w n i : ℕ} {v : List ℕ} {r : Found} (wide : fields ≤ w) (h : i < n) where
-  pub free-hit : Scanned is_free w v n i r → get_or v (i * w) 0 ≡ 0 → FoundAs r n (At i)
-  free-hit s e = scan-hit s h (eq-eqb _ _ (row_first w i v (omega arith) ∙ e))
-
-  pub free-miss : Scanned is_free w v n i r → (get_or v (i * w) 0 ≡ 0 → ⊥) → Scanned is_free w v n (i + 1) r
-  free-miss s e = scan-miss s h (ne_eqb _ _ (λ q. e (sym (row_first w i v (omega arith)) ∙ q)))
-
-  module _ (round : ℕ) {b : Bool} (s : Scanned (of_round round) w v n i r) (is : b ≡ round_with (get_or v (i * w) 0) (get_or v (i * w + 1) 0) round) where
-    pub of-hit : b ≡ true → FoundAs r n (At i)
-    unfolding of_round
-    of-hit e = scan-hit s h (rw (row_first w i v (omega arith), row_at w i 1 v (omega arith)) (sym is ∙ e))
-
-    pub of-miss : b ≡ false → Scanned (of_round round) w v n (i + 1) r
-    unfolding of_round
-    of-miss e = scan-miss s h (rw (row_first w i v (omega arith), row_at w i 1 v (omega arith)) (sym is ∙ e))
-
-  module _ (total : ℕ) {b : Bool} (s : Scanned (is_heavy total) w v n i r) (is : b ≡ heavy_with (get_or v (i * w) 0) (get_or v (i * w + 2) 0) total) where
-    pub heavy-hit : b ≡ true → FoundAs r n (At i)
-    heavy-hit e = scan-hit s h (rw (row_first w i v (omega arith), row_at w i 2 v (omega arith)) (sym is ∙ e))
-
-    pub heavy-miss : b ≡ false → Scanned (is_heavy total) w v n (i + 1) r
-    heavy-miss e = scan-miss s h (rw (row_first w i v (omega arith), row_at w i 2 v (omega arith)) (sym is ∙ e))
+use Rattle.aggregator.specs.Tally.{fields, places, vote_width, timeout_width, used_of, round_of, weight_of, names_of, is_free, is_heavy, kept, has_name, with_author, counted, answer_of, AddedAs}
+use Rattle.aggregator.specs.Tallies.{vote_tallies, timeout_tallies, timeouts_length, total_max, find_row, find_free, find_heavy, heavy, any_heavy, Light, joined, dropped, first_of, place_for, opened, table_for, TallyFor, Countable, answer_at, table_at, added, after, highs_at, HighsAs}
+use Rattle.aggregator.specs.Keys.{Keyed}
+use Rattle.aggregator.proofs.Rows.{none_found, part-row, put_as, row_at, row_within, lowest-below, lowest-holds, none-lowest, with_row-same, with_row-row, with_row-length, with_row-each, map_rows-row, zeros-row}
+use Rattle.aggregator.proofs.TallyLaws.{heavy-under, used-has, answer-some, answer-row, kept-length, kept-used, name-none}
 
 -- ---- the tally that a test asks for
 
-module _ {test : List ℕ → Bool} {new v : List ℕ} {w n : ℕ} {r : Found} (a : FoundAs (find_row test w n v) n r) where
-  pub tally-found : {i : ℕ} → r ≡ At i → TallyFor test new w n v (At i) v
+module _ {test : List ℕ → Bool} {new v : List ℕ} {w n : ℕ} {r : Option ℕ} (a : FoundAs (find_row test w n v) n r) where
+  pub tally-found : {i : ℕ} → r ≡ Some i → TallyFor test new w n v (Some i) v
   unfolding place_for table_for
   tally-found {i} e =
-      let f : find_row test w n v ≡ At i = sym a.is ∙ e in
+      let f : find_row test w n v ≡ Some i = sym a.is ∙ e in
       record { place = rw f; table = rw f; below = λ j q. let z : i ≡ j = cc in omega (arith, a.below i e) }
 
-  module _ (e : r ≡ Nothing) {g : Found} (b : FoundAs (find_free w n v) n g) where
-    pub tally-opened : {i : ℕ} {v' : List ℕ} → g ≡ At i → v' ≡ with_row w v i new → TallyFor test new w n v (At i) v'
+  module _ (e : (i : ℕ) → r ≡ Some i → ⊥) {g : Option ℕ} (b : FoundAs (find_free w n v) n g) where
+    pub tally-opened : {i : ℕ} {v' : List ℕ} → g ≡ Some i → v' ≡ with_row w v i new → TallyFor test new w n v (Some i) v'
     unfolding place_for table_for
     tally-opened {i} q t =
-        let f : find_row test w n v ≡ Nothing = sym a.is ∙ e in
-        let h : find_free w n v ≡ At i = sym b.is ∙ q in
+        let f : find_row test w n v ≡ None = sym a.is ∙ none_found r e in
+        let h : find_free w n v ≡ Some i = sym b.is ∙ q in
         record { place = rw (f, h); table = rw (f, h) t; below = λ j y. let z : i ≡ j = cc in omega (arith, b.below i q) }
 
-    pub tally-none : g ≡ Nothing → TallyFor test new w n v Nothing v
+    pub tally-none : g ≡ None → TallyFor test new w n v None v
     unfolding place_for table_for
     tally-none q =
-        let f : find_row test w n v ≡ Nothing = sym a.is ∙ e in
-        let h : find_free w n v ≡ Nothing = sym b.is ∙ q in
+        let f : find_row test w n v ≡ None = sym a.is ∙ none_found r e in
+        let h : find_free w n v ≡ None = sym b.is ∙ q in
         record { place = rw (f, h); table = rw (f, h); below = λ j y. let z : ◌≡◌ {A = ℕ} 0 1 = cc in omega arith }
 
 module _ (test : List ℕ → Bool) (new : List ℕ) (w n : ℕ) (v : List ℕ) where
-  row_below : (p : List ℕ → Bool) (i : ℕ) → find_row p w n v ≡ At i → i < n
+  row_below : (p : List ℕ → Bool) (i : ℕ) → find_row p w n v ≡ Some i → i < n
   unfolding find_row
   row_below p i e = omega (arith, lowest-below p w v n 0 i e)
 
-  free-below : (i : ℕ) → find_free w n v ≡ At i → i < n
+  free-below : (i : ℕ) → find_free w n v ≡ Some i → i < n
   unfolding find_free
   free-below i e = row_below is_free i e
 
@@ -110,40 +71,40 @@ module _ (test : List ℕ → Bool) (new : List ℕ) (w n : ℕ) (v : List ℕ) 
   unfolding place_for
   tally-for = record { place = refl; table = refl; below = λ i e. cases (find_row test w n v) (find_free w n v) refl refl i e }
     where
-      cases : (f g : Found) → find_row test w n v ≡ f → find_free w n v ≡ g → (i : ℕ) → first_of f g ≡ At i → i < n
-      cases (At j) g a b i e = row_below test i (a ∙ e)
-      cases Nothing g a b i e = free-below i (b ∙ e)
+      cases : (f g : Option ℕ) → find_row test w n v ≡ f → find_free w n v ≡ g → (i : ℕ) → first_of f g ≡ Some i → i < n
+      cases (Some j) g a b i e = row_below test i (a ∙ e)
+      cases None g a b i e = free-below i (b ∙ e)
 
-pub tally-below : {test : List ℕ → Bool} {new : List ℕ} {w n : ℕ} {v v' : List ℕ} {f : Found} {i : ℕ} → TallyFor test new w n v f v' → f ≡ At i → i < n
+pub tally-below : {test : List ℕ → Bool} {new : List ℕ} {w n : ℕ} {v v' : List ℕ} {f : Option ℕ} {i : ℕ} → TallyFor test new w n v f v' → f ≡ Some i → i < n
 tally-below t e = t.below _ e
 
 -- where there is no room the table is as it was
-pub tally-full : {test : List ℕ → Bool} {new : List ℕ} {w n : ℕ} {v v' : List ℕ} → TallyFor test new w n v Nothing v' → v' ≡ v
+pub tally-full : {test : List ℕ → Bool} {new : List ℕ} {w n : ℕ} {v v' : List ℕ} → TallyFor test new w n v None v' → v' ≡ v
 unfolding place_for table_for
 tally-full {test} {new} {w} {n} {v} {v'} h = cases (find_row test w n v) (find_free w n v) h.place h.table
   where
-    cases : (f g : Found) → Nothing ≡ first_of f g → v' ≡ opened new w v f g → v' ≡ v
-    cases (At j) g p t = t
-    cases Nothing (At j) p t = absurd (let z : ◌≡◌ {A = ℕ} 0 1 = cc in omega arith)
-    cases Nothing Nothing p t = t
+    cases : (f g : Option ℕ) → None ≡ first_of f g → v' ≡ opened new w v f g → v' ≡ v
+    cases (Some j) g p t = t
+    cases None (Some j) p t = absurd (let z : ◌≡◌ {A = ℕ} 0 1 = cc in omega arith)
+    cases None None p t = t
 
 -- The tally at i is one that was there and passes the test, or the new one, where none was in use.
 pub data Stands (test : List ℕ → Bool) (new : List ℕ) (w : ℕ) (v : List ℕ) (i : ℕ) (v' : List ℕ) : Type 0 where
   was-there : v' ≡ v → test (row w v i) ≡ true → Stands test new w v i v'
   was-new : v' ≡ with_row w v i new → row w v' i ≡ new → used_of (row w v i) ≡ 0 → Stands test new w v i v'
 
-module _ {test : List ℕ → Bool} {new : List ℕ} {mark : List ℕ → List ℕ} {w n : ℕ} {v v' : List ℕ} {i : ℕ} (k : Kind test new mark w) (long : n * w ≤ length v) (h : TallyFor test new w n v (At i) v') where
+module _ {test : List ℕ → Bool} {new : List ℕ} {w n : ℕ} {v v' : List ℕ} {i : ℕ} (k : Keyed test new w) (long : n * w ≤ length v) (h : TallyFor test new w n v (Some i) v') where
   pub tally-stands : Stands test new w v i v'
   unfolding place_for table_for find_row find_free
   tally-stands = cases (find_row test w n v) (find_free w n v) refl refl h.place h.table
     where
-      cases : (f g : Found) → f ≡ find_row test w n v → g ≡ find_free w n v → At i ≡ first_of f g → v' ≡ opened new w v f g → Stands test new w v i v'
-      cases (At j) g e q p t = let z : i ≡ j = cc in was-there t (rw z (lowest-holds test w v n 0 j (sym e)))
-      cases Nothing (At j) e q p t =
+      cases : (f g : Option ℕ) → f ≡ find_row test w n v → g ≡ find_free w n v → Some i ≡ first_of f g → v' ≡ opened new w v f g → Stands test new w v i v'
+      cases (Some j) g e q p t = let z : i ≡ j = cc in was-there t (rw z (lowest-holds test w v n 0 j (sym e)))
+      cases None (Some j) e q p t =
           let z : j ≡ i = cc in
           let s : v' ≡ with_row w v i new = rw z at t in
           was-new s (rw s (with_row-row w i v new k.size (row_within w i n v (h.below i refl) long))) (rw (← z) (eqb-true _ _ (lowest-holds is_free w v n 0 j (sym q))))
-      cases Nothing Nothing e q p t = absurd (let z : ◌≡◌ {A = ℕ} 0 1 = cc in omega arith)
+      cases None None e q p t = absurd (let z : ◌≡◌ {A = ℕ} 0 1 = cc in omega arith)
 
   pub tally-passes : test (row w v' i) ≡ true
   tally-passes = cases tally-stands
@@ -184,61 +145,32 @@ append-part mark w i v p stake need c =
     let d = rw (part-row w i v) at c in
     record { answer = d.answer; table = put_as w i v d.table }
 
--- ---- the ways out of `add_vote` and `add_timeout`
+-- ---- the ways out of `add`
 
--- the stake of one more author fits
-add-fits : {test : List ℕ → Bool} {new : List ℕ} {mark : List ℕ → List ℕ} {w n p stake : ℕ} {v v' : List ℕ} {i : ℕ} → Kind test new mark w → TallyFor test new w n v (At i) v'
-    → Countable w n v p stake → weight_of (row w v' i) + stake < 2 ^ 64
-add-fits k t c = omega (arith, tally-light k (omega (arith, c.long)) t total_max c.light)
+module _ {test : List ℕ → Bool} {new : List ℕ} {w n : ℕ} {v v' : List ℕ} {f : Option ℕ} (k : Keyed test new w) (p stake need : ℕ) (t : TallyFor test new w n v f v') where
+  -- the stake of one more author fits
+  pub add-fits : {i : ℕ} → f ≡ Some i → Countable w n v p stake → weight_of (row w v' i) + stake < 2 ^ 64
+  add-fits e c = omega (arith, tally-light k (omega (arith, c.long)) (rw e at t) total_max c.light)
 
-module _ {test : List ℕ → Bool} {new : List ℕ} {mark : List ℕ → List ℕ} {w n : ℕ} {v v' : List ℕ} {f : Found} (k : Kind test new mark w) (p stake need : ℕ) (t : TallyFor test new w n v f v') where
-  add-full : f ≡ Nothing → AddedAs (added test new w n v p stake need) (after test new mark w n v p stake need) NoRoom v'
-  unfolding added after
-  add-full e = record { answer = rw (← t.place, e); table = rw (← t.place, e) (tally-full (rw e at t)) }
+  module _ (mark : List ℕ → List ℕ) where
+    pub add-full : f ≡ None → AddedAs (added test new w n v p stake need) (after test new mark w n v p stake need) NoRoom v'
+    unfolding added after
+    add-full e = record { answer = rw (← t.place, e); table = rw (← t.place, e) (tally-full (rw e at t)) }
 
-  add-counted : {i : ℕ} {r : Added} {v'' : List ℕ} → n * w ≤ length v → f ≡ At i
-      → AddedAs (answer_of i (row w v' i) p stake need) (with_row w v' i (counted mark (row w v' i) p stake need)) r v''
-      → AddedAs (added test new w n v p stake need) (after test new mark w n v p stake need) r v''
-  unfolding added after counted
-  add-counted {i} {r} {v''} l e c =
-      record {
-        answer = rw (← t.place, e, ← t.table) c.answer;
-        table = rw (← t.place, e, ← t.table) (cases (has_name (names_of (row w v' i)) p) refl c.table);
-      }
-    where
-      cases : (b : Bool) → b ≡ has_name (names_of (row w v' i)) p → v'' ≡ with_row w v' i (cond b (row w v' i) (with_author mark (row w v' i) p stake need))
-          → v'' ≡ cond b v (with_row w v' i (with_author mark (row w v' i) p stake need))
-      cases true q s = s ∙ with_row-same w i v' ∙ tally-reused k l (rw e at t) p (sym q)
-      cases false q s = s
-
-module _ (votes : List ℕ) (round : ℕ) (hash : Hash) (p stake need : ℕ) {v' : List ℕ} {f : Found} (t : TallyFor (is_vote round hash) (new_vote round hash) vote_width vote_tallies votes f v') where
-  pub added-vote-full : f ≡ Nothing → AddedAs (vote_added votes round hash p stake need) (votes_after votes round hash p stake need) NoRoom v'
-  unfolding vote_added votes_after
-  added-vote-full = add-full (vote-kind round hash) p stake need t
-
-  module _ {i : ℕ} (e : f ≡ At i) (c : Countable vote_width vote_tallies votes p stake) where
-    pub added-vote-fits : weight_of (row vote_width v' i) + stake < 2 ^ 64
-    added-vote-fits = add-fits (vote-kind round hash) (rw e at t) c
-
-    pub added-vote-counted : {r : Added} {v'' : List ℕ} → AddedAs (answer_of i (row vote_width v' i) p stake need) (with_row vote_width v' i (counted no_high (row vote_width v' i) p stake need)) r v''
-        → AddedAs (vote_added votes round hash p stake need) (votes_after votes round hash p stake need) r v''
-    unfolding vote_added votes_after
-    added-vote-counted = add-counted (vote-kind round hash) p stake need t (omega arith) e
-
-module _ (timeouts : List ℕ) (round p stake need high : ℕ) {v' : List ℕ} {f : Found} (t : TallyFor (of_round round) (new_timeout round) timeout_width timeout_tallies timeouts f v') where
-  pub added-timeout-full : f ≡ Nothing → AddedAs (timeout_added timeouts round p stake need) (timeouts_after timeouts round p stake need high) NoRoom v'
-  unfolding timeout_added timeouts_after
-  added-timeout-full = add-full (timeout-kind round p high) p stake need t
-
-  module _ {i : ℕ} (e : f ≡ At i) (c : Countable timeout_width timeout_tallies timeouts p stake) where
-    pub added-timeout-fits : weight_of (row timeout_width v' i) + stake < 2 ^ 64
-    added-timeout-fits = add-fits (timeout-kind round p high) (rw e at t) c
-
-    pub added-timeout-counted : {r : Added} {v'' : List ℕ}
-        → AddedAs (answer_of i (row timeout_width v' i) p stake need) (with_row timeout_width v' i (counted (with_high p high) (row timeout_width v' i) p stake need)) r v''
-        → AddedAs (timeout_added timeouts round p stake need) (timeouts_after timeouts round p stake need high) r v''
-    unfolding timeout_added timeouts_after
-    added-timeout-counted = add-counted (timeout-kind round p high) p stake need t (omega arith) e
+    pub add-counted : {i : ℕ} {r : Added} {v'' : List ℕ} → Countable w n v p stake → f ≡ Some i
+        → AddedAs (answer_of i (row w v' i) p stake need) (with_row w v' i (counted mark (row w v' i) p stake need)) r v''
+        → AddedAs (added test new w n v p stake need) (after test new mark w n v p stake need) r v''
+    unfolding added after counted
+    add-counted {i} {r} {v''} l e c =
+        record {
+          answer = rw (← t.place, e, ← t.table) c.answer;
+          table = rw (← t.place, e, ← t.table) (cases (has_name (names_of (row w v' i)) p) refl c.table);
+        }
+      where
+        cases : (b : Bool) → b ≡ has_name (names_of (row w v' i)) p → v'' ≡ with_row w v' i (cond b (row w v' i) (with_author mark (row w v' i) p stake need))
+            → v'' ≡ cond b v (with_row w v' i (with_author mark (row w v' i) p stake need))
+        cases true q s = s ∙ with_row-same w i v' ∙ tally-reused k (omega (arith, l.long)) (rw e at t) p (sym q)
+        cases false q s = s
 
 -- ---- what an answer says
 
@@ -248,34 +180,28 @@ module _ (test : List ℕ → Bool) (new : List ℕ) (w n : ℕ) (v : List ℕ) 
   unfolding added after
   added-no-room mark e = cases (place_for test w n v) e
     where
-      cases : (f : Found) → answer_at w (table_for test new w n v) p stake need f ≡ NoRoom → table_at mark w v (table_for test new w n v) p stake need f ≡ v
-      cases Nothing q = refl
-      cases (At i) q = absurd (answer-some i (row w (table_for test new w n v) i) p stake need q)
+      cases : (f : Option ℕ) → answer_at w (table_for test new w n v) p stake need f ≡ NoRoom → table_at mark w v (table_for test new w n v) p stake need f ≡ v
+      cases None q = refl
+      cases (Some i) q = absurd (answer-some i (row w (table_for test new w n v) i) p stake need q)
 
   pub added-used : (mark : List ℕ → List ℕ) → added test new w n v p stake need ≡ Used → after test new mark w n v p stake need ≡ v
   unfolding added after
   added-used mark e = cases (place_for test w n v) e
     where
-      cases : (f : Found) → answer_at w (table_for test new w n v) p stake need f ≡ Used → table_at mark w v (table_for test new w n v) p stake need f ≡ v
-      cases Nothing q = refl
-      cases (At i) q = rw (used-has i (row w (table_for test new w n v) i) p stake need (sym q))
+      cases : (f : Option ℕ) → answer_at w (table_for test new w n v) p stake need f ≡ Used → table_at mark w v (table_for test new w n v) p stake need f ≡ v
+      cases None q = refl
+      cases (Some i) q = rw (used-has i (row w (table_for test new w n v) i) p stake need (sym q))
 
   -- the row of a quorum is one of the table's
   pub added-below : {i : ℕ} {s : Signers} → added test new w n v p stake need ≡ Full i s → i < n
   unfolding added
   added-below {i} {s} e = cases (place_for test w n v) refl e
     where
-      cases : (f : Found) → place_for test w n v ≡ f → answer_at w (table_for test new w n v) p stake need f ≡ Full i s → i < n
-      cases Nothing z q = absurd (let y : ◌≡◌ {A = ℕ} 0 1 = cc in omega arith)
-      cases (At j) z q = rw (← answer-row j (row w (table_for test new w n v) j) p stake need q) ((tally-for test new w n v).below j z)
+      cases : (f : Option ℕ) → place_for test w n v ≡ f → answer_at w (table_for test new w n v) p stake need f ≡ Full i s → i < n
+      cases None z q = absurd (let y : ◌≡◌ {A = ℕ} 0 1 = cc in omega arith)
+      cases (Some j) z q = rw (← answer-row j (row w (table_for test new w n v) j) p stake need q) ((tally-for test new w n v).below j z)
 
 -- ---- the ways of `weights_of`
-
-or-le-l : (a b : ℕ) → a ≤ bit_or a b
-or-le-l a b = omega (arith, or_add_and a b, and_le_r a b)
-
-or-le-r : (a b : ℕ) → b ≤ bit_or a b
-or-le-r a b = omega (arith, or_add_and a b, and_le_l a b)
 
 pub joined-none : (w : ℕ) (v : List ℕ) → 0 ≡ joined w 0 v
 unfolding joined
@@ -292,61 +218,13 @@ unfolding joined
 joined-above w zero i v h = absurd (omega arith)
 joined-above w (suc n) i v h =
     let x = weight_of (row w v n) in
-    ⊎_elim (λ (z : i ≡ n). rw z (or-le-r (joined w n v) x)) (λ (z : i < n). omega (arith, joined-above w n i v z, or-le-l (joined w n v) x)) (eq-or-lt_of_le (omega arith))
+    ⊎_elim (λ (z : i ≡ n). rw z (le_or_r (joined w n v) x)) (λ (z : i < n). omega (arith, joined-above w n i v z, le_or_l (joined w n v) x)) (eq-or-lt_of_le (omega arith))
 
--- ---- the ways of `any_heavy`
-
--- of both tables: what all tallies give is what those from row i on give
-pub record Looked (votes timeouts : List ℕ) (total i : ℕ) : Type 0 where
-  pub of-votes : Scanned (is_heavy total) vote_width votes vote_tallies i (find_heavy vote_width vote_tallies votes total)
-  pub of-timeouts : Scanned (is_heavy total) timeout_width timeouts timeout_tallies i (find_heavy timeout_width timeout_tallies timeouts total)
-
-pub look-start : (votes timeouts : List ℕ) (total : ℕ) → Looked votes timeouts total 0
-look-start votes timeouts total = record { of-votes = heavy-start vote_width vote_tallies votes total; of-timeouts = heavy-start timeout_width timeout_tallies timeouts total }
-
-module _ (w n : ℕ) (v : List ℕ) (total : ℕ) where
-  heavy-some : {i : ℕ} → FoundAs (find_heavy w n v total) n (At i) → heavy w n v total ≡ true
-  unfolding heavy
-  heavy-some f = rw (← f.is)
-
-  heavy-none : FoundAs (find_heavy w n v total) n Nothing → heavy w n v total ≡ false
-  unfolding heavy
-  heavy-none f = rw (← f.is)
-
-  -- where no weight is above the total, none in use is
-  heavy-never : joined w n v ≤ total → heavy w n v total ≡ false
-  unfolding heavy find_heavy find_row
-  heavy-never l =
-      rw (none-lowest (is_heavy total) w v n 0 (λ i a b. sym (heavy-under (used_of (row w v i)) (weight_of (row w v i)) total (omega (arith, joined-above w n i v (omega arith))))))
-
-module _ {votes timeouts : List ℕ} {total i : ℕ} (s : Looked votes timeouts total i) where
-  pub look-end : vote_tallies ≤ i → false ≡ any_heavy votes timeouts total
-  unfolding any_heavy
-  look-end h =
-      rw (heavy-none vote_width vote_tallies votes total (scan-end s.of-votes h), heavy-none timeout_width timeout_tallies timeouts total (scan-end s.of-timeouts (omega arith)))
-
-  module _ (h : i < vote_tallies) {b : Bool} (is : b ≡ heavy_with (get_or votes (i * vote_width) 0) (get_or votes (i * vote_width + 2) 0) total) where
-    pub look-vote : b ≡ true → true ≡ any_heavy votes timeouts total
-    unfolding any_heavy
-    look-vote e = rw (heavy-some vote_width vote_tallies votes total (heavy-hit (omega arith) h total s.of-votes is e))
-
-    -- there are fewer tallies of timeouts
-    pub look-past : b ≡ false → timeout_tallies ≤ i → Looked votes timeouts total (i + 1)
-    look-past e l = record { of-votes = heavy-miss (omega arith) h total s.of-votes is e; of-timeouts = scan-past s.of-timeouts l }
-
-    module _ (l : i < timeout_tallies) {d : Bool} (of : d ≡ heavy_with (get_or timeouts (i * timeout_width) 0) (get_or timeouts (i * timeout_width + 2) 0) total) where
-      pub look-timeout : d ≡ true → true ≡ any_heavy votes timeouts total
-      unfolding any_heavy
-      look-timeout f =
-          rw (heavy-some timeout_width timeout_tallies timeouts total (heavy-hit (omega arith) l total s.of-timeouts of f)) (either (heavy vote_width vote_tallies votes total))
-        where
-          either : (b : Bool) → true ≡ b || true
-          either true = refl
-          either false = refl
-
-      pub look-on : b ≡ false → d ≡ false → Looked votes timeouts total (i + 1)
-      look-on e f =
-          record { of-votes = heavy-miss (omega arith) h total s.of-votes is e; of-timeouts = heavy-miss (omega arith) l total s.of-timeouts of f }
+-- where no weight is above the total, none in use is
+heavy-never : (w n : ℕ) (v : List ℕ) (total : ℕ) → joined w n v ≤ total → heavy w n v total ≡ false
+unfolding heavy find_heavy find_row
+heavy-never w n v total l =
+    rw (none-lowest (is_heavy total) w v n 0 (λ i a b. sym (heavy-under (used_of (row w v i)) (weight_of (row w v i)) total (omega (arith, joined-above w n i v (omega arith))))))
 
 -- ---- the ways out of `are_light`
 
@@ -355,14 +233,24 @@ module _ (votes timeouts : List ℕ) (total : ℕ) where
       → true ≡ not (any_heavy votes timeouts total)
   unfolding any_heavy
   are-light-joined {a} {b} h k l =
-      rw (heavy-never vote_width vote_tallies votes total (omega (arith, h, or-le-l a b)), heavy-never timeout_width timeout_tallies timeouts total (omega (arith, k, or-le-r a b)))
+      rw (heavy-never vote_width vote_tallies votes total (omega (arith, h, le_or_l a b)), heavy-never timeout_width timeout_tallies timeouts total (omega (arith, k, le_or_r a b)))
 
-  module _ {b : Bool} (is : b ≡ any_heavy votes timeouts total) where
-    pub are-light-not : b ≡ true → false ≡ not (any_heavy votes timeouts total)
-    are-light-not e = rw (← is, e)
+  -- none of votes, so it goes by those of timeouts
+  pub are-light-none : {a b : Bool} → a ≡ heavy vote_width vote_tallies votes total → b ≡ heavy timeout_width timeout_tallies timeouts total → not a ≡ true → not b ≡ not (any_heavy votes timeouts total)
+  unfolding any_heavy
+  are-light-none {a} {b} h k e = rw (← h, ← k) (cases a e)
+    where
+      cases : (a : Bool) → not a ≡ true → not b ≡ not (a || b)
+      cases false e = refl
+      cases true e = absurd (let z : ◌≡◌ {A = ℕ} 0 1 = cc in omega arith)
 
-    pub are-light-all : b ≡ false → true ≡ not (any_heavy votes timeouts total)
-    are-light-all e = rw (← is, e)
+  pub are-light-some : {a : Bool} → a ≡ heavy vote_width vote_tallies votes total → not a ≡ false → not a ≡ not (any_heavy votes timeouts total)
+  unfolding any_heavy
+  are-light-some {a} h e = rw (← h) (cases a e)
+    where
+      cases : (a : Bool) → not a ≡ false → not a ≡ not (a || heavy timeout_width timeout_tallies timeouts total)
+      cases true e = refl
+      cases false e = absurd (let z : ◌≡◌ {A = ℕ} 0 1 = cc in omega arith)
 
 -- ---- the high rounds
 

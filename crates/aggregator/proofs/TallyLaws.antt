@@ -1,6 +1,6 @@
 -- Laws of a single tally. In order:
---     is-vote-..., of-..., heavy-..., keep-..., append-..., high-...     one for each way out of the functions on a tally
---     answer-..., used-has, new-has  what an answer says
+--     is-vote-..., of-..., heavy-..., keep-..., append-...     one for each way out of the functions on a tally
+--     answer-..., used-has  what an answer says
 --     kept-...                       a tally that is dropped or kept
 --     name-...                       a name in a word of names
 --     Mark, author-...               a tally with one more author
@@ -8,12 +8,12 @@
 --     vote-is, timeout-is            what a tally is that is looked up
 -- Assumes nothing.
 use Prim.Native.Nat.{ℕ, ◌+◌, ◌*◌, ◌/◌, ◌%◌, ◌≤◌, ◌<◌, ◌^◌}
-use mathlib.Core.Bool.{Bool, true, false, not, cond}
+use mathlib.Core.Bool.{Bool, true, false, cond}
 use mathlib.Core.List.{List}
 use mathlib.Core.Path.{◌≡◌, refl, sym, ap, ◌∙◌}
 use native.Mathlib.Nat.{zero-div, div_self}
 use native.Mathlib.Omega.{arith}
-use borrow.Author.Tests.{eq-eqb, ne_eqb, lt-ltb, le-ltb, ltb-false, eqb-true, eqb-false}
+use borrow.Author.Tests.{eq-eqb, ne_eqb, lt-ltb, le-ltb, ltb-false, eqb-true}
 use lib.Bits.{bit_or, or_shr, or_step}
 use lib.Dec.{eqb, ltb}
 use lib.Pow.{pow_pos}
@@ -27,6 +27,7 @@ use Rattle.aggregator.specs.declared.tallies.Added.{Added}
 use Rattle.aggregator.specs.declared.tallies.Added.TheVariants.{NoRoom, Used, More, Full}
 use Rattle.aggregator.specs.Rows.{zeros}
 use Rattle.aggregator.specs.Tally.{fields, places, vote_width, timeout_width, used_of, round_of, weight_of, names_of, hash_of, is_free, is_vote, round_with, of_round, heavy_with, kept, new_vote, new_timeout, has_name, with_name, signers, with_high, no_high, with_author, counted, answer_of, AddedAs}
+use Rattle.aggregator.specs.Keys.{Keyed, vote-keyed, timeout-keyed}
 use Rattle.aggregator.proofs.Rows.{one_shl, zeros-at}
 
 -- ---- the ways out of the functions on a tally
@@ -52,20 +53,12 @@ module _ (round used of : ℕ) where
   pub of-used : (used ≡ 0 → ⊥) → eqb of round ≡ round_with used of round
   of-used h = rw (ne_eqb _ _ h)
 
-module _ (used weight total : ℕ) where
-  pub heavy-over : total < weight → not (eqb used 0) ≡ heavy_with used weight total
-  heavy-over h = rw (lt-ltb _ _ h) (by-mark (eqb used 0))
-    where
-      by-mark : (e : Bool) → not e ≡ cond e false true
-      by-mark true = refl
-      by-mark false = refl
-
-  pub heavy-under : weight ≤ total → false ≡ heavy_with used weight total
-  heavy-under h = rw (le-ltb _ _ h) (by-mark (eqb used 0))
-    where
-      by-mark : (e : Bool) → false ≡ cond e false false
-      by-mark true = refl
-      by-mark false = refl
+pub heavy-under : (used weight total : ℕ) → weight ≤ total → false ≡ heavy_with used weight total
+heavy-under used weight total h = rw (le-ltb _ _ h) (by-mark (eqb used 0))
+  where
+    by-mark : (e : Bool) → false ≡ cond e false false
+    by-mark true = refl
+    by-mark false = refl
 
 module _ (round : ℕ) (t : List ℕ) where
   pub keep-dropped : {t' : List ℕ} → (get_or t 0 0 ≡ 0 → ⊥) → get_or t 1 0 < round → t' ≡ zeros (length t) → t' ≡ kept round t
@@ -84,40 +77,36 @@ pub timeout-opened : (round : ℕ) (t : List ℕ) {t' : List ℕ} → t' ≡ zer
 unfolding new_timeout
 timeout-opened round t e l = rw (e, l)
 
-module _ (i : ℕ) (t : List ℕ) (p stake need : ℕ) where
-  pub append-used : get_or t 3 0 / 2 ^ p % 2 ≡ 1 → AddedAs (answer_of i t p stake need) (counted no_high t p stake need) Used t
+module _ (mark : List ℕ → List ℕ) (i : ℕ) (t : List ℕ) (p stake need : ℕ) where
+  pub append-used : get_or t 3 0 / 2 ^ p % 2 ≡ 1 → AddedAs (answer_of i t p stake need) (counted mark t p stake need) Used t
   unfolding answer_of counted
   append-used h = record { answer = rw (eq-eqb _ _ h); table = rw (eq-eqb _ _ h) }
 
-  module _ (new : get_or t 3 0 / 2 ^ p % 2 ≡ 1 → ⊥) (h : p < places) where
+  module _ (new : get_or t 3 0 / 2 ^ p % 2 ≡ 1 → ⊥) (h : p < places) {t' : List ℕ} where
     pub append-more : get_or t 2 0 + stake < need
-        → AddedAs (answer_of i t p stake need) (counted no_high t p stake need) More
-        (set (set t 3 (bit_or (get_or t 3 0) (1 * 2 ^ p % 2 ^ 64))) 2 (get_or t 2 0 + stake))
-    unfolding answer_of counted with_author no_high
-    append-more m =
+        → t' ≡ mark (set (set t 3 (bit_or (get_or t 3 0) (1 * 2 ^ p % 2 ^ 64))) 2 (get_or t 2 0 + stake))
+        → AddedAs (answer_of i t p stake need) (counted mark t p stake need) More t'
+    unfolding answer_of counted with_author
+    append-more m e =
         record {
           answer = rw (ne_eqb _ _ new, lt-ltb _ _ m);
-          table = rw (one_shl p h, ne_eqb _ _ new, lt-ltb _ _ m);
+          table = rw (ne_eqb _ _ new, lt-ltb _ _ m) (rw (one_shl p h) at e);
         }
 
     pub append-full : need ≤ get_or t 2 0 + stake
-        → AddedAs (answer_of i t p stake need) (counted no_high t p stake need) (Full i (signers (bit_or (get_or t 3 0) (1 * 2 ^ p % 2 ^ 64))))
-        (set (set t 3 (bit_or (get_or t 3 0) (1 * 2 ^ p % 2 ^ 64))) 2 0)
-    unfolding answer_of counted with_author no_high
-    append-full m =
+        → t' ≡ mark (set (set t 3 (bit_or (get_or t 3 0) (1 * 2 ^ p % 2 ^ 64))) 2 0)
+        → AddedAs (answer_of i t p stake need) (counted mark t p stake need) (Full i (signers (bit_or (get_or t 3 0) (1 * 2 ^ p % 2 ^ 64)))) t'
+    unfolding answer_of counted with_author
+    append-full m e =
         record {
           answer = rw (one_shl p h, ne_eqb _ _ new, le-ltb _ _ m);
-          table = rw (one_shl p h, ne_eqb _ _ new, le-ltb _ _ m);
+          table = rw (ne_eqb _ _ new, le-ltb _ _ m) (rw (one_shl p h) at e);
         }
 
 name-used : (b d : Bool) (a : Added) → Used ≡ cond b Used (cond d More a) → (a ≡ Used → ⊥) → b ≡ true
 name-used true d a e h = refl
 name-used false true a e h = absurd (let z : ◌≡◌ {A = ℕ} 0 1 = cc in omega arith)
 name-used false false a e h = absurd (h (sym e))
-
-name_new : (b d : Bool) (a : Added) {r : Added} → r ≡ cond b Used (cond d More a) → (r ≡ Used → ⊥) → b ≡ false
-name_new true d a e h = absurd (h e)
-name_new false d a e h = refl
 
 no-room-never : (b d : Bool) (i : ℕ) (s : Signers) → cond b Used (cond d More (Full i s)) ≡ NoRoom → ⊥
 no-room-never true d i s e = let z : ◌≡◌ {A = ℕ} 0 1 = cc in omega arith
@@ -144,25 +133,6 @@ module _ (i : ℕ) (t : List ℕ) (p stake need : ℕ) where
   pub used-has : Used ≡ answer_of i t p stake need → has_name (names_of t) p ≡ true
   unfolding answer_of
   used-has e = name-used (has_name (names_of t) p) (ltb (weight_of t + stake) need) _ e (λ q. let z : ◌≡◌ {A = ℕ} 0 1 = cc in omega arith)
-
-  -- and who is not was not
-  pub new-has : {r : Added} → r ≡ answer_of i t p stake need → (r ≡ Used → ⊥) → has_name (names_of t) p ≡ false
-  unfolding answer_of
-  new-has e h = name_new (has_name (names_of t) p) (ltb (weight_of t + stake) need) _ e h
-
-  module _ (high : ℕ) {r : Added} {t' : List ℕ} (c : AddedAs (answer_of i t p stake need) (counted no_high t p stake need) r t') where
-    pub high_used : r ≡ Used → AddedAs (answer_of i t p stake need) (counted (with_high p high) t p stake need) r t'
-    unfolding counted
-    high_used q =
-        let e = used-has (sym q ∙ c.answer) in
-        record { answer = c.answer; table = rw e at c.table ∙ rw e }
-
-    pub high-new : (r ≡ Used → ⊥) → AddedAs (answer_of i t p stake need) (counted (with_high p high) t p stake need) r (set t' (p + 4) high)
-    unfolding counted with_author no_high with_high
-    high-new q =
-        let e = new-has c.answer q in
-        let f : p + 4 ≡ 4 + p = omega arith in
-        record { answer = c.answer; table = rw (f, c.table, e) }
 
 -- ---- a tally that is dropped or kept
 
@@ -293,10 +263,6 @@ pub record Kind (test : List ℕ → Bool) (new : List ℕ) (mark : List ℕ →
   pub marks : Mark mark
   pub stays : (t : List ℕ) (p stake need : ℕ) → test (with_author mark t p stake need) ≡ test t
 
-free-false : (b x : Bool) → cond b false x ≡ true → b ≡ false
-free-false true x e = absurd (let z : ◌≡◌ {A = ℕ} 0 1 = cc in omega arith)
-free-false false x e = refl
-
 same-vote : (round : ℕ) (hash : Hash) (t u : List ℕ) → used_of u ≡ used_of t → round_of u ≡ round_of t → hash_of u ≡ hash_of t → is_vote round hash u ≡ is_vote round hash t
 unfolding is_vote
 same-vote round hash t u a b e = rw (a, b) (ap (λ (h : Hash). cond (is_free t) false (cond (eqb (round_of t) round) (same_hash h hash) false)) e)
@@ -305,31 +271,35 @@ same-round : (round : ℕ) (t u : List ℕ) → used_of u ≡ used_of t → roun
 unfolding of_round
 same-round round t u a b = rw (a, b)
 
+-- what it says of the test and the new tally
+pub kind-keyed : {test : List ℕ → Bool} {new : List ℕ} {mark : List ℕ → List ℕ} {w : ℕ} → Kind test new mark w → Keyed test new w
+kind-keyed k = record { wide = k.wide; used = k.used; passes = k.passes; size = k.size; weight = k.weight; names = k.names }
+
 pub vote-kind : (round : ℕ) (hash : Hash) → Kind (is_vote round hash) (new_vote round hash) no_high vote_width
-unfolding is_vote new_vote
 vote-kind round hash =
+    let k = vote-keyed round hash in
     record {
-      wide = omega arith;
-      used = λ t e. eqb-false _ _ (free-false (is_free t) _ e);
-      passes = rw (eq-eqb round round refl, eq-eqb hash.a hash.a refl, eq-eqb hash.b hash.b refl, eq-eqb hash.c hash.c refl, eq-eqb hash.d hash.d refl);
-      size = refl;
-      weight = refl;
-      names = refl;
+      wide = k.wide;
+      used = k.used;
+      passes = k.passes;
+      size = k.size;
+      weight = k.weight;
+      names = k.names;
       marks = vote-mark;
       stays = λ t p stake need.
           same-vote round hash t (with_author no_high t p stake need) (author-used vote-mark t p stake need) (author-round vote-mark t p stake need) (author-hash t p stake need);
     }
 
 pub timeout-kind : (round p high : ℕ) → Kind (of_round round) (new_timeout round) (with_high p high) timeout_width
-unfolding of_round new_timeout
 timeout-kind round p high =
+    let k = timeout-keyed round in
     record {
-      wide = omega arith;
-      used = λ t e. eqb-false _ _ (free-false (is_free t) _ e);
-      passes = eq-eqb round round refl;
-      size = refl;
-      weight = refl;
-      names = refl;
+      wide = k.wide;
+      used = k.used;
+      passes = k.passes;
+      size = k.size;
+      weight = k.weight;
+      names = k.names;
       marks = timeout-mark p high;
       stays = λ t q stake need.
           same-round round t (with_author (with_high p high) t q stake need) (author-used (timeout-mark p high) t q stake need) (author-round (timeout-mark p high) t q stake need);

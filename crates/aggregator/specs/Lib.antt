@@ -1,3 +1,4 @@
 pub mod Rows
 pub mod Tally
 pub mod Tallies
+pub mod Keys

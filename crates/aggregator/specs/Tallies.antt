@@ -4,12 +4,12 @@
 --     total_max                           the most that the stakes of all members may be
 --     find_row test w n v                 the lowest tally that passes the test
 --     find_free w n v                     the lowest that is not in use
---     find_heavy w n v total, heavy w n v total     the lowest in use that is heavier than the total; whether there is one (is_at)
+--     find_heavy w n v total, heavy w n v total     the lowest in use that is heavier than the total; whether there is one
 --     any_heavy votes timeouts total      whether there is one in the table of votes or in that of timeouts
 --     Light w n v total                   none in use is heavier than the total
 --     joined w n v                        every bit that the weight of some of the n tallies has, in use or not
 --     dropped w n v round                 the table once the round is `round`
---     place_for test w n v                the row of the tally that passes the test, or of a new one; Nothing if all are held (first_of)
+--     place_for test w n v                the row of the tally that passes the test, or of a new one; None if all are held (first_of)
 --     table_for test new w n v            the table with that tally in it, `new` where there was none (opened)
 --     TallyFor test new w n v r v'        r is the row, and v' the table
 --     Countable w n v p stake             what is asked of a table, a place and its stake before the author is counted
@@ -19,12 +19,10 @@
 --     timeout_added, timeouts_after       the two for a timeout
 --     highs_at v i                        the high rounds of the timeout tally in row i, by place
 --     HighsAs v i h                       h is those, one for each place
-use Rattle.std.specs.Prelude.{ℕ, zero, suc, ◌*◌, ◌≤◌, ◌<◌, Bool, true, false, cond, ◌||◌, List, ◌≡◌, length, drop}
+use Rattle.std.specs.Prelude.{ℕ, zero, suc, ◌*◌, ◌≤◌, ◌<◌, Bool, cond, ◌||◌, Option, Some, None, is_some, List, ◌≡◌, length, drop}
 use Rattle.std.specs.Int.Bits.{bit_or}
 use Rattle.certificates.specs.Config as limits
 use Rattle.certificates.specs.declared.numbers.Hash.{Hash}
-use Rattle.aggregator.specs.declared.tallies.Found.{Found}
-use Rattle.aggregator.specs.declared.tallies.Found.TheVariants.{At, Nothing}
 use Rattle.aggregator.specs.declared.tallies.Added.{Added}
 use Rattle.aggregator.specs.declared.tallies.Added.TheVariants.{NoRoom}
 use Rattle.aggregator.specs.Rows.{row, with_row, lowest, map_rows}
@@ -48,21 +46,17 @@ abbrev pub total_max : ℕ
 total_max = limits.total_max
 
 -- "only used ones are looked up", "lookups the lowest match"
-unfoldable pub find_row : (List ℕ → Bool) → ℕ → ℕ → List ℕ → Found
+unfoldable pub find_row : (List ℕ → Bool) → ℕ → ℕ → List ℕ → Option ℕ
 find_row test w n v = lowest test w v n 0
 
-unfoldable pub find_free : ℕ → ℕ → List ℕ → Found
+unfoldable pub find_free : ℕ → ℕ → List ℕ → Option ℕ
 find_free w n v = find_row is_free w n v
 
-unfoldable pub find_heavy : ℕ → ℕ → List ℕ → ℕ → Found
+unfoldable pub find_heavy : ℕ → ℕ → List ℕ → ℕ → Option ℕ
 find_heavy w n v total = find_row (is_heavy total) w n v
 
-abbrev pub is_at : Found → Bool
-is_at (At i) = true
-is_at Nothing = false
-
 unfoldable pub heavy : ℕ → ℕ → List ℕ → ℕ → Bool
-heavy w n v total = is_at (find_heavy w n v total)
+heavy w n v total = is_some (find_heavy w n v total)
 
 unfoldable pub any_heavy : List ℕ → List ℕ → ℕ → Bool
 any_heavy votes timeouts total = heavy vote_width vote_tallies votes total || heavy timeout_width timeout_tallies timeouts total
@@ -81,25 +75,25 @@ unfoldable pub dropped : ℕ → ℕ → List ℕ → ℕ → List ℕ
 dropped w n v round = map_rows (kept round) w n v
 
 -- "New blocks and tallies take the lowest free place, lookups the lowest match"
-abbrev pub first_of : Found → Found → Found
-first_of (At i) f = At i
-first_of Nothing f = f
+abbrev pub first_of : Option ℕ → Option ℕ → Option ℕ
+first_of (Some i) f = Some i
+first_of None f = f
 
-unfoldable pub place_for : (List ℕ → Bool) → ℕ → ℕ → List ℕ → Found
+unfoldable pub place_for : (List ℕ → Bool) → ℕ → ℕ → List ℕ → Option ℕ
 place_for test w n v = first_of (find_row test w n v) (find_free w n v)
 
-abbrev pub opened : List ℕ → ℕ → List ℕ → Found → Found → List ℕ
-opened new w v (At i) f = v
-opened new w v Nothing (At i) = with_row w v i new
-opened new w v Nothing Nothing = v
+abbrev pub opened : List ℕ → ℕ → List ℕ → Option ℕ → Option ℕ → List ℕ
+opened new w v (Some i) f = v
+opened new w v None (Some i) = with_row w v i new
+opened new w v None None = v
 
 unfoldable pub table_for : (List ℕ → Bool) → List ℕ → ℕ → ℕ → List ℕ → List ℕ
 table_for test new w n v = opened new w v (find_row test w n v) (find_free w n v)
 
-pub record TallyFor (test : List ℕ → Bool) (new : List ℕ) (w n : ℕ) (v : List ℕ) (r : Found) (v' : List ℕ) : Type 0 where
+pub record TallyFor (test : List ℕ → Bool) (new : List ℕ) (w n : ℕ) (v : List ℕ) (r : Option ℕ) (v' : List ℕ) : Type 0 where
   pub place : r ≡ place_for test w n v
   pub table : v' ≡ table_for test new w n v
-  pub below : (i : ℕ) → r ≡ At i → i < n
+  pub below : (i : ℕ) → r ≡ Some i → i < n
 
 -- so that no sum of a weight and a stake is too large
 pub record Countable (w n : ℕ) (v : List ℕ) (p stake : ℕ) : Type 0 where
@@ -109,17 +103,17 @@ pub record Countable (w n : ℕ) (v : List ℕ) (p stake : ℕ) : Type 0 where
   pub part : stake ≤ total_max
 
 -- 29: "new tally, all 32 vote or 16 timeout tallies held"; else what the tally in row i of t answers
-abbrev pub answer_at : ℕ → List ℕ → ℕ → ℕ → ℕ → Found → Added
-answer_at w t p stake need Nothing = NoRoom
-answer_at w t p stake need (At i) = answer_of i (row w t i) p stake need
+abbrev pub answer_at : ℕ → List ℕ → ℕ → ℕ → ℕ → Option ℕ → Added
+answer_at w t p stake need None = NoRoom
+answer_at w t p stake need (Some i) = answer_of i (row w t i) p stake need
 
 unfoldable pub added : (List ℕ → Bool) → List ℕ → ℕ → ℕ → List ℕ → ℕ → ℕ → ℕ → Added
 added test new w n v p stake need = answer_at w (table_for test new w n v) p stake need (place_for test w n v)
 
 -- the table v if it is refused, else t with the author counted in row i
-abbrev pub table_at : (List ℕ → List ℕ) → ℕ → List ℕ → List ℕ → ℕ → ℕ → ℕ → Found → List ℕ
-table_at mark w v t p stake need Nothing = v
-table_at mark w v t p stake need (At i) = cond (has_name (names_of (row w t i)) p) v (with_row w t i (with_author mark (row w t i) p stake need))
+abbrev pub table_at : (List ℕ → List ℕ) → ℕ → List ℕ → List ℕ → ℕ → ℕ → ℕ → Option ℕ → List ℕ
+table_at mark w v t p stake need None = v
+table_at mark w v t p stake need (Some i) = cond (has_name (names_of (row w t i)) p) v (with_row w t i (with_author mark (row w t i) p stake need))
 
 unfoldable pub after : (List ℕ → Bool) → List ℕ → (List ℕ → List ℕ) → ℕ → ℕ → List ℕ → ℕ → ℕ → ℕ → List ℕ
 after test new mark w n v p stake need = table_at mark w v (table_for test new w n v) p stake need (place_for test w n v)

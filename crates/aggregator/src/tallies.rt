@@ -10,12 +10,9 @@
 ghost use Rattle.std.specs.Prelude.{not, ◌≡◌, ◌+◌, ◌*◌, ◌≤◌, ◌<◌, ◌^◌, length};
 ghost use Rattle.aggregator.specs.Rows.{row, with_row, FoundAs, zeros};
 ghost use Rattle.aggregator.specs.Tally.{fields, places, vote_width, timeout_width, weight_of, is_vote, of_round, new_vote, new_timeout, no_high, with_high, answer_of, counted, AddedAs};
-ghost use Rattle.aggregator.specs.Tallies.{vote_tallies, timeout_tallies, votes_length, timeouts_length, find_row, find_free, any_heavy, joined, dropped, TallyFor, Countable, vote_added, votes_after, timeout_added, timeouts_after, HighsAs};
+ghost use Rattle.aggregator.specs.Tallies.{vote_tallies, timeout_tallies, votes_length, timeouts_length, find_row, find_free, heavy, any_heavy, joined, dropped, TallyFor, Countable, added, after, vote_added, votes_after, timeout_added, timeouts_after, HighsAs};
 
-use crate::tally::{
-    HIGHS, PLACES, ROUND, WEIGHT, append, append_high, is_heavy, is_of, is_vote, keep,
-    open_timeout, open_vote,
-};
+use crate::tally::{HIGHS, Key, PLACES, TimeoutKey, USED, VoteKey, WEIGHT, append, is_heavy, keep};
 use certificates::numbers::{Hash, Place, Round, Signers, Stake};
 
 pub const VOTE_TALLIES: usize = 32;
@@ -25,13 +22,6 @@ pub const VOTE_WIDTH: usize = 8;
 pub const TIMEOUT_TALLIES: usize = 16;
 
 pub const TIMEOUT_WIDTH: usize = 68;
-
-// Where a search ends: at the lowest row that it looks for, or without one.
-#[derive(Clone, Copy)]
-pub enum Found {
-    At(usize),
-    Nothing,
-}
 
 // What became of a vote or a timeout.
 #[derive(Clone, Copy)]
@@ -46,117 +36,86 @@ pub enum Added {
     Full(usize, Signers),
 }
 
-// ---- what is done to a row where it lies
+// ---- a tally and its author
 
-// The lowest vote tally that is in use for the round and the hash.
-fn find_vote(votes: &[u64], round: Round, hash: Hash) -> Found
-    requires { length votes.now ≡ votes_length }
-    ensures { FoundAs (find_row (is_vote round.0 hash) vote_width vote_tallies votes.now) vote_tallies result }
+// The lowest tally that is in use for the key.
+fn find<K: Key>(table: &[u64], key: K) -> Option<usize>
+    requires { length table.now ≡ K.TALLIES * K.WIDTH }
+    ensures { FoundAs (find_row (K.test key) K.WIDTH K.TALLIES table.now) K.TALLIES result }
 {
-    let mut i: usize = 0;
-    while i < VOTE_TALLIES {
-        let from = i * VOTE_WIDTH;
-        let to = from + VOTE_WIDTH;
-        if is_vote(&votes[from..to], round, hash) {
-            return Found::At(i);
+    // `chunks_exact` with `position` is slower.
+    for i in 0..K::TALLIES {
+        let from = i * K::WIDTH;
+        let to = from + K::WIDTH;
+        if key.is_of(&table[from..to]) {
+            return Some(i);
         }
-        i += 1;
     }
-    Found::Nothing
+    None
 }
 
-// The lowest timeout tally that is in use for the round.
-fn find_timeout(timeouts: &[u64], round: Round) -> Found
-    requires { length timeouts.now ≡ timeouts_length }
-    ensures { FoundAs (find_row (of_round round.0) timeout_width timeout_tallies timeouts.now) timeout_tallies result }
+// The lowest tally that is not in use.
+fn find_free<K: Key>(table: &[u64]) -> Option<usize>
+    requires { length table.now ≡ K.TALLIES * K.WIDTH }
+    ensures { FoundAs (find_free K.WIDTH K.TALLIES table.now) K.TALLIES result }
 {
-    let mut i: usize = 0;
-    while i < TIMEOUT_TALLIES {
-        let from = i * TIMEOUT_WIDTH;
-        if is_of(timeouts[from], timeouts[from + ROUND], round) {
-            return Found::At(i);
+    // As in `find`.
+    for i in 0..K::TALLIES {
+        if table[i * K::WIDTH + USED] == 0 {
+            return Some(i);
         }
-        i += 1;
     }
-    Found::Nothing
+    None
 }
 
-// The lowest of n tallies, each w wide, that is not in use.
-fn find_free(v: &[u64], w: usize, n: usize) -> Found
-    requires { (fields ≤ w) × (n * w ≤ length v.now) }
-    ensures { FoundAs (find_free w n v.now) n result }
+// The tally in row i opened for the key.
+fn open_at<K: Key>(table: &mut [u64], i: usize, key: K)
+    requires { (length table.old ≡ K.TALLIES * K.WIDTH) × (i < K.TALLIES) }
+    ensures { table.new ≡ with_row K.WIDTH table.old i (K.new key) }
 {
-    let mut i: usize = 0;
-    while i < n {
-        let from = i * w;
-        if v[from] == 0 {
-            return Found::At(i);
-        }
-        i += 1;
-    }
-    Found::Nothing
+    let from = i * K::WIDTH;
+    let to = from + K::WIDTH;
+    key.open(&mut table[from..to]);
 }
 
-fn open_vote_at(votes: &mut [u64], i: usize, round: Round, hash: Hash)
-    requires { (length votes.old ≡ votes_length) × (i < vote_tallies) }
-    ensures { votes.new ≡ with_row vote_width votes.old i (new_vote round.0 hash) }
-{
-    let from = i * VOTE_WIDTH;
-    let to = from + VOTE_WIDTH;
-    open_vote(&mut votes[from..to], round, hash);
-}
-
-fn open_timeout_at(timeouts: &mut [u64], i: usize, round: Round)
-    requires { (length timeouts.old ≡ timeouts_length) × (i < timeout_tallies) }
-    ensures { timeouts.new ≡ with_row timeout_width timeouts.old i (new_timeout round.0) }
-{
-    let from = i * TIMEOUT_WIDTH;
-    let to = from + TIMEOUT_WIDTH;
-    open_timeout(&mut timeouts[from..to], round);
-}
-
-fn append_at(votes: &mut [u64], i: usize, place: Place, stake: Stake, need: Stake) -> Added
-    requires { (length votes.old ≡ votes_length) × (i < vote_tallies) × (place.0 < places) × (weight_of (row vote_width votes.old i) + stake.0 < 2 ^ 64) }
-    ensures { AddedAs (answer_of i (row vote_width votes.old i) place.0 stake.0 need.0) (with_row vote_width votes.old i (counted no_high (row vote_width votes.old i) place.0 stake.0 need.0)) result votes.new }
-{
-    let from = i * VOTE_WIDTH;
-    let to = from + VOTE_WIDTH;
-    append(&mut votes[from..to], i, place, stake, need)
-}
-
-fn append_high_at(
-    timeouts: &mut [u64],
+// An author counted in the tally of row i.
+fn append_at<K: Key>(
+    table: &mut [u64],
     i: usize,
+    key: K,
     place: Place,
     stake: Stake,
     need: Stake,
-    high: Round,
 ) -> Added
-    requires { (length timeouts.old ≡ timeouts_length) × (i < timeout_tallies) × (place.0 < places) × (weight_of (row timeout_width timeouts.old i) + stake.0 < 2 ^ 64) }
-    ensures { AddedAs (answer_of i (row timeout_width timeouts.old i) place.0 stake.0 need.0) (with_row timeout_width timeouts.old i (counted (with_high place.0 high.0) (row timeout_width timeouts.old i) place.0 stake.0 need.0)) result timeouts.new }
+    requires { (length table.old ≡ K.TALLIES * K.WIDTH) × (i < K.TALLIES) × (place.0 < places) × (weight_of (row K.WIDTH table.old i) + stake.0 < 2 ^ 64) }
+    ensures { AddedAs (answer_of i (row K.WIDTH table.old i) place.0 stake.0 need.0) (with_row K.WIDTH table.old i (counted (K.mark key place.0) (row K.WIDTH table.old i) place.0 stake.0 need.0)) result table.new }
 {
-    let from = i * TIMEOUT_WIDTH;
-    let to = from + TIMEOUT_WIDTH;
-    append_high(&mut timeouts[from..to], i, place, stake, need, high)
+    let from = i * K::WIDTH;
+    let to = from + K::WIDTH;
+    append(&mut table[from..to], i, key, place, stake, need)
 }
 
-// ---- votes
-
-// The row of the tally for the round and the hash, which is opened where there is none yet and
-// there is room.
-fn vote_tally(votes: &mut [u64], round: Round, hash: Hash) -> Found
-    requires { length votes.old ≡ votes_length }
-    ensures { TallyFor (is_vote round.0 hash) (new_vote round.0 hash) vote_width vote_tallies votes.old result votes.new }
+// The row of the tally for the key, which is opened where there is none yet and there is room.
+fn tally<K: Key>(table: &mut [u64], key: K) -> Option<usize>
+    requires { length table.old ≡ K.TALLIES * K.WIDTH }
+    ensures { TallyFor (K.test key) (K.new key) K.WIDTH K.TALLIES table.old result table.new }
 {
-    match find_vote(votes, round, hash) {
-        Found::At(i) => Found::At(i),
-        Found::Nothing => match find_free(votes, VOTE_WIDTH, VOTE_TALLIES) {
-            Found::At(i) => {
-                open_vote_at(votes, i, round, hash);
-                Found::At(i)
-            }
-            Found::Nothing => Found::Nothing,
-        },
+    if let Some(i) = find(table, key) {
+        return Some(i);
+    }
+    let i = find_free::<K>(table)?;
+    open_at(table, i, key);
+    Some(i)
+}
+
+// An author counted in the tally for the key. `NoRoom` and `Used` leave the whole table as it was.
+fn add<K: Key>(table: &mut [u64], key: K, place: Place, stake: Stake, need: Stake) -> Added
+    requires { Countable K.WIDTH K.TALLIES table.old place.0 stake.0 }
+    ensures { AddedAs (added (K.test key) (K.new key) K.WIDTH K.TALLIES table.old place.0 stake.0 need.0) (after (K.test key) (K.new key) (K.mark key place.0) K.WIDTH K.TALLIES table.old place.0 stake.0 need.0) result table.new }
+{
+    match tally(table, key) {
+        Some(i) => append_at(table, i, key, place, stake, need),
+        None => Added::NoRoom,
     }
 }
 
@@ -173,29 +132,7 @@ pub fn add_vote(
     requires { Countable vote_width vote_tallies votes.old place.0 stake.0 }
     ensures { AddedAs (vote_added votes.old round.0 hash place.0 stake.0 need.0) (votes_after votes.old round.0 hash place.0 stake.0 need.0) result votes.new }
 {
-    match vote_tally(votes, round, hash) {
-        Found::At(i) => append_at(votes, i, place, stake, need),
-        Found::Nothing => Added::NoRoom,
-    }
-}
-
-// ---- timeouts
-
-// The row of the tally for the round, as `vote_tally`.
-fn timeout_tally(timeouts: &mut [u64], round: Round) -> Found
-    requires { length timeouts.old ≡ timeouts_length }
-    ensures { TallyFor (of_round round.0) (new_timeout round.0) timeout_width timeout_tallies timeouts.old result timeouts.new }
-{
-    match find_timeout(timeouts, round) {
-        Found::At(i) => Found::At(i),
-        Found::Nothing => match find_free(timeouts, TIMEOUT_WIDTH, TIMEOUT_TALLIES) {
-            Found::At(i) => {
-                open_timeout_at(timeouts, i, round);
-                Found::At(i)
-            }
-            Found::Nothing => Found::Nothing,
-        },
-    }
+    add(votes, VoteKey { round, hash }, place, stake, need)
 }
 
 // A timeout counted in the tally of its round, with its author's high round. `NoRoom` and `Used`
@@ -211,10 +148,7 @@ pub fn add_timeout(
     requires { Countable timeout_width timeout_tallies timeouts.old place.0 stake.0 }
     ensures { AddedAs (timeout_added timeouts.old round.0 place.0 stake.0 need.0) (timeouts_after timeouts.old round.0 place.0 stake.0 need.0 high.0) result timeouts.new }
 {
-    match timeout_tally(timeouts, round) {
-        Found::At(i) => append_high_at(timeouts, i, place, stake, need, high),
-        Found::Nothing => Added::NoRoom,
-    }
+    add(timeouts, TimeoutKey { round, high }, place, stake, need)
 }
 
 // The high rounds of the tally in row i, by place.
@@ -227,19 +161,18 @@ pub fn highs_at(timeouts: &[u64], i: usize) -> &[u64]
     &timeouts[from..to]
 }
 
-// ---- both
+// ---- every tally
 
 // Of n tallies, each w wide, those in use for a round below `round` become all zeros.
 pub fn cleanup(v: &mut [u64], w: usize, n: usize, round: Round)
     requires { (fields ≤ w) × (n * w ≤ length v.old) }
     ensures { v.new ≡ dropped w n v.old round.0 }
 {
-    let mut i: usize = 0;
-    while i < n {
+    // By `chunks_exact_mut` the proof does not close: once the chunks are back it knows their length only.
+    for i in 0..n {
         let from = i * w;
         let to = from + w;
         keep(&mut v[from..to], round);
-        i += 1;
     }
 }
 
@@ -257,38 +190,28 @@ pub fn cleanup_timeouts(timeouts: &mut [u64], round: Round)
     cleanup(timeouts, TIMEOUT_WIDTH, TIMEOUT_TALLIES, round);
 }
 
-// Every bit that the weight of some of n tallies has, each w wide.
+// Every bit that the weight of some of n tallies has, each w wide. Every event asks for it: over a
+// `K: Key`, and by `chunks_exact` with `fold`, it is slower.
 fn weights_of(v: &[u64], w: usize, n: usize) -> u64
     requires { (fields ≤ w) × (n * w ≤ length v.now) }
     ensures { result ≡ joined w n v.now }
 {
-    let mut all: u64 = 0;
-    let mut i: usize = 0;
-    while i < n {
-        all = all | v[i * w + WEIGHT];
-        i += 1;
+    let mut all = 0;
+    for i in 0..n {
+        all |= v[i * w + WEIGHT];
     }
     all
 }
 
-// Whether some tally in use is heavier than the total. One loop looks at both tables.
-fn any_heavy(votes: &[u64], timeouts: &[u64], total: Stake) -> bool
-    requires { (length votes.now ≡ votes_length) × (length timeouts.now ≡ timeouts_length) }
-    ensures { result ≡ any_heavy votes.now timeouts.now total.0 }
+// Whether some tally in use is heavier than the total. It is hardly ever asked, and inlined it would
+// slow down what is asked on every event.
+#[cold]
+#[inline(never)]
+fn is_any_heavy<K: Key>(table: &[u64], total: Stake) -> bool
+    requires { length table.now ≡ K.TALLIES * K.WIDTH }
+    ensures { result ≡ heavy K.WIDTH K.TALLIES table.now total.0 }
 {
-    let mut i: usize = 0;
-    while i < VOTE_TALLIES {
-        if is_heavy(votes, i * VOTE_WIDTH, total) {
-            return true;
-        }
-        if i < TIMEOUT_TALLIES {
-            if is_heavy(timeouts, i * TIMEOUT_WIDTH, total) {
-                return true;
-            }
-        }
-        i += 1;
-    }
-    false
+    table.chunks_exact(K::WIDTH).any(|t| is_heavy(t, total))
 }
 
 // Whether no tally in use is heavier than the total. Where the bits of all weights together are no
@@ -302,19 +225,12 @@ pub fn are_light(votes: &[u64], timeouts: &[u64], total: Stake) -> bool
     if of_votes | of_timeouts <= (total.0 as u64) {
         return true;
     }
-    if any_heavy(votes, timeouts, total) {
-        return false;
-    }
-    true
+    !is_any_heavy::<VoteKey>(votes, total) && !is_any_heavy::<TimeoutKey>(timeouts, total)
 }
 
 // Every number becomes 0: a table with no tally in use.
 pub fn clear(s: &mut [u64])
     ensures { s.new ≡ zeros (length s.old) }
 {
-    let mut i: usize = 0;
-    while i < s.len() {
-        s[i] = 0;
-        i += 1;
-    }
+    s.fill(0);
 }

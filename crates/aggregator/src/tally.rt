@@ -1,18 +1,21 @@
 // A single tally, a row of numbers: `QCMaker` and `TCMaker` of aggregator.rs.
 //
 // The first four numbers are the same in a vote tally and in a timeout tally, and so is what is
-// done to them.
-ghost use Rattle.std.specs.Prelude.{◌≡◌, ◌+◌, ◌≤◌, ◌<◌, ◌^◌, length, get_or};
-ghost use Rattle.aggregator.specs.Tally.{fields, places, vote_width, timeout_width, weight_of, is_vote, round_with, heavy_with, kept, new_vote, new_timeout, no_high, with_high, answer_of, counted, AddedAs};
+// done to them. What differs goes by the key that a tally is kept under.
+ghost use Rattle.std.specs.Prelude.{ℕ, Bool, List, ◌≡◌, ◌+◌, ◌≤◌, ◌<◌, ◌^◌, length};
+ghost use Rattle.aggregator.specs.Tally.{fields, places, vote_width, timeout_width, weight_of, is_vote, of_round, is_heavy, kept, new_vote, new_timeout, no_high, with_high, answer_of, counted, AddedAs};
+ghost use Rattle.aggregator.specs.Tallies.{vote_tallies, timeout_tallies};
+ghost use Rattle.aggregator.specs.Keys.{Keyed, vote-keyed, timeout-keyed};
+ghost use Rattle.std.proofs.Common.{arith};
 
-use crate::tallies::{Added, clear};
+use crate::tallies::{Added, TIMEOUT_TALLIES, TIMEOUT_WIDTH, VOTE_TALLIES, VOTE_WIDTH, clear};
 use certificates::config::MEMBERS_MAX;
 use certificates::numbers::{Hash, Place, Round, Signers, Stake};
 
 // Where a tally's numbers lie.
-const USED: usize = 0;
+pub(crate) const USED: usize = 0;
 
-pub(crate) const ROUND: usize = 1;
+const ROUND: usize = 1;
 
 pub(crate) const WEIGHT: usize = 2;
 
@@ -32,46 +35,145 @@ pub(crate) const HIGHS: usize = 4;
 
 pub(crate) const PLACES: usize = MEMBERS_MAX;
 
-// Whether a vote tally is in use for the round and the hash.
-pub(crate) fn is_vote(t: &[u64], round: Round, hash: Hash) -> bool
-    requires { length t.now ≡ vote_width }
-    ensures { result ≡ is_vote round.0 hash t.now }
-{
-    if t[USED] == 0 {
-        return false;
-    }
-    if t[ROUND] == round.0 {
-        let h = Hash {
-            a: t[HASH_A],
-            b: t[HASH_B],
-            c: t[HASH_C],
-            d: t[HASH_D],
-        };
-        return h == hash;
-    }
-    false
+// What a tally is kept under, and with it how the tallies of its kind lie in their table.
+pub(crate) trait Key: Copy {
+    ghost WIDTH: { ℕ };
+
+    ghost TALLIES: { ℕ };
+
+    // What a tally in use for the key passes, one that nobody is counted in, and what is stored
+    // of an author besides its name and stake.
+    ghost test: { Self → List ℕ → Bool };
+
+    ghost new: { Self → List ℕ };
+
+    ghost mark: { Self → ℕ → List ℕ → List ℕ };
+
+    const WIDTH: usize;
+
+    const TALLIES: usize;
+
+    // Whether a tally is in use for the key.
+    fn is_of(self, t: &[u64]) -> bool
+        requires { length t.now ≡ WIDTH }
+        ensures { result ≡ test self t.now };
+
+    // A tally for the key, with nobody counted yet.
+    fn open(self, t: &mut [u64])
+        requires { length t.old ≡ WIDTH }
+        ensures { t.new ≡ new self };
+
+    fn mark(self, t: &mut [u64], place: Place)
+        requires { (length t.old ≡ WIDTH) × (place.0 < places) }
+        ensures { t.new ≡ mark self place.0 t.old };
+
+    ghost wide: { fields ≤ WIDTH };
+
+    ghost keyed: { (k : Self) → Keyed (test k) (new k) WIDTH };
 }
 
-// Whether a tally with this used mark and round is in use for the round.
-pub(crate) fn is_of(used: u64, of: u64, round: Round) -> bool
-    ensures { result ≡ round_with used of round.0 }
-{
-    if used == 0 {
-        return false;
-    }
-    of == round.0
+// A vote's: the round and the hash.
+#[derive(Clone, Copy)]
+pub(crate) struct VoteKey {
+    pub(crate) round: Round,
+    pub(crate) hash: Hash,
 }
 
-// Whether the tally that begins at `from` is in use and heavier than the total. Few are heavier, so
-// the weight is looked at first.
-pub(crate) fn is_heavy(v: &[u64], from: usize, total: Stake) -> bool
-    requires { from + fields ≤ length v.now }
-    ensures { result ≡ heavy_with (get_or v.now from 0) (get_or v.now (from + 2) 0) total.0 }
-{
-    if (total.0 as u64) < v[from + WEIGHT] {
-        return v[from] != 0;
+impl Key for VoteKey {
+    ghost WIDTH = { vote_width };
+
+    ghost TALLIES = { vote_tallies };
+
+    ghost test = { λ k. is_vote k.round.0 k.hash };
+
+    ghost new = { λ k. new_vote k.round.0 k.hash };
+
+    ghost mark = { λ k p. no_high };
+
+    ghost wide = { Prim.omega arith };
+
+    ghost keyed = { λ k. vote-keyed k.round.0 k.hash };
+
+    const WIDTH: usize = VOTE_WIDTH;
+
+    const TALLIES: usize = VOTE_TALLIES;
+
+    fn is_of(self, t: &[u64]) -> bool {
+        t[USED] != 0
+            && t[ROUND] == self.round.0
+            && same_hash(
+                Hash {
+                    a: t[HASH_A],
+                    b: t[HASH_B],
+                    c: t[HASH_C],
+                    d: t[HASH_D],
+                },
+                self.hash,
+            )
     }
-    false
+
+    fn open(self, t: &mut [u64]) {
+        t[USED] = 1;
+        t[ROUND] = self.round.0;
+        t[WEIGHT] = 0;
+        t[NAMES] = 0;
+        t[HASH_A] = self.hash.a;
+        t[HASH_B] = self.hash.b;
+        t[HASH_C] = self.hash.c;
+        t[HASH_D] = self.hash.d;
+    }
+
+    fn mark(self, _t: &mut [u64], _place: Place) {}
+}
+
+// A timeout's: the round, with the author's high round.
+#[derive(Clone, Copy)]
+pub(crate) struct TimeoutKey {
+    pub(crate) round: Round,
+    pub(crate) high: Round,
+}
+
+impl Key for TimeoutKey {
+    ghost WIDTH = { timeout_width };
+
+    ghost TALLIES = { timeout_tallies };
+
+    ghost test = { λ k. of_round k.round.0 };
+
+    ghost new = { λ k. new_timeout k.round.0 };
+
+    ghost mark = { λ k p. with_high p k.high.0 };
+
+    ghost wide = { Prim.omega arith };
+
+    ghost keyed = { λ k. timeout-keyed k.round.0 };
+
+    const WIDTH: usize = TIMEOUT_WIDTH;
+
+    const TALLIES: usize = TIMEOUT_TALLIES;
+
+    fn is_of(self, t: &[u64]) -> bool {
+        t[USED] != 0 && t[ROUND] == self.round.0
+    }
+
+    fn open(self, t: &mut [u64]) {
+        clear(t);
+        t[USED] = 1;
+        t[ROUND] = self.round.0;
+    }
+
+    fn mark(self, t: &mut [u64], place: Place) {
+        t[HIGHS + place.0 as usize] = self.high.0;
+    }
+}
+
+// Whether a tally is in use and heavier than the total. Few are heavier, so the weight is looked at
+// first.
+pub(crate) fn is_heavy(t: &[u64], total: Stake) -> bool
+    requires { fields ≤ length t.now }
+    ensures { result ≡ is_heavy total.0 t.now }
+{
+    (total.0 as u64) < t[WEIGHT] && t[USED] != 0
 }
 
 // A tally as it stands once the round is `round`: all zeros if it is of an earlier one.
@@ -79,43 +181,23 @@ pub(crate) fn keep(t: &mut [u64], round: Round)
     requires { fields ≤ length t.old }
     ensures { t.new ≡ kept round.0 t.old }
 {
-    if t[USED] != 0 {
-        if t[ROUND] < round.0 {
-            clear(t);
-        }
+    if t[USED] != 0 && t[ROUND] < round.0 {
+        clear(t);
     }
-}
-
-// A tally for the round and the hash, with no vote yet.
-pub(crate) fn open_vote(t: &mut [u64], round: Round, hash: Hash)
-    requires { length t.old ≡ vote_width }
-    ensures { t.new ≡ new_vote round.0 hash }
-{
-    t[USED] = 1;
-    t[ROUND] = round.0;
-    t[WEIGHT] = 0;
-    t[NAMES] = 0;
-    t[HASH_A] = hash.a;
-    t[HASH_B] = hash.b;
-    t[HASH_C] = hash.c;
-    t[HASH_D] = hash.d;
-}
-
-// A tally for the round, with no timeout yet.
-pub(crate) fn open_timeout(t: &mut [u64], round: Round)
-    requires { length t.old ≡ timeout_width }
-    ensures { t.new ≡ new_timeout round.0 }
-{
-    clear(t);
-    t[USED] = 1;
-    t[ROUND] = round.0;
 }
 
 // An author counted in the tally of row i. One that was counted already changes nothing. At the
 // quorum the weight becomes 0 and the names stay.
-pub(crate) fn append(t: &mut [u64], i: usize, place: Place, stake: Stake, need: Stake) -> Added
-    requires { (fields ≤ length t.old) × (place.0 < places) × (weight_of t.old + stake.0 < 2 ^ 64) }
-    ensures { AddedAs (answer_of i t.old place.0 stake.0 need.0) (counted no_high t.old place.0 stake.0 need.0) result t.new }
+pub(crate) fn append<K: Key>(
+    t: &mut [u64],
+    i: usize,
+    key: K,
+    place: Place,
+    stake: Stake,
+    need: Stake,
+) -> Added
+    requires { (length t.old ≡ K.WIDTH) × (place.0 < places) × (weight_of t.old + stake.0 < 2 ^ 64) }
+    ensures { AddedAs (answer_of i t.old place.0 stake.0 need.0) (counted (K.mark key place.0) t.old place.0 stake.0 need.0) result t.new }
 {
     let names = t[NAMES];
     // Ensure it is the first time this authority votes.
@@ -127,29 +209,10 @@ pub(crate) fn append(t: &mut [u64], i: usize, place: Place, stake: Stake, need: 
     t[NAMES] = signers;
     if weight < (need.0 as u64) {
         t[WEIGHT] = weight;
+        key.mark(t, place);
         return Added::More;
     }
     t[WEIGHT] = 0; // Ensures QC is only made once.
+    key.mark(t, place);
     Added::Full(i, Signers(signers))
-}
-
-// The same in a timeout tally, with the author's high round.
-pub(crate) fn append_high(
-    t: &mut [u64],
-    i: usize,
-    place: Place,
-    stake: Stake,
-    need: Stake,
-    high: Round,
-) -> Added
-    requires { (length t.old ≡ timeout_width) × (place.0 < places) × (weight_of t.old + stake.0 < 2 ^ 64) }
-    ensures { AddedAs (answer_of i t.old place.0 stake.0 need.0) (counted (with_high place.0 high.0) t.old place.0 stake.0 need.0) result t.new }
-{
-    let at = (place.0 as usize) + HIGHS;
-    let a = append(t, i, place, stake, need);
-    if let Added::Used = a {
-        return a;
-    }
-    t[at] = high.0;
-    a
 }

@@ -1,14 +1,9 @@
--- `aggregator::tallies::add_timeout` meets its contract: no room, or the author is counted in the tally that was found or opened: a law for each.
+-- `aggregator::tallies::add_timeout` meets its contract, which is that of `add` at its key.
 -- Assumes nothing.
-use borrow.Author.Rules.{rules}
-use Rattle.aggregator.proofs.TableLaws.{tally-below, added-timeout-full, added-timeout-fits, added-timeout-counted}
+use Rattle.std.proofs.Common.{rules}
+use Rattle.aggregator.specs.Tallies.{timeout_added, timeouts_after}
 use Rattle.aggregator.proofs.tallies.add_timeout.Goals as goal
 
-pub append_high_at-requires : goal.append_high_at-requires
-append_high_at-requires c = (search rules, search (rules, tally-below), search rules, search (rules, added-timeout-fits))
-
-pub returns-in-At : goal.returns-in-At
-returns-in-At c = search (rules, added-timeout-counted)
-
-pub returns-in-Nothing : goal.returns-in-Nothing
-returns-in-Nothing c = search (rules, added-timeout-full)
+pub returns : goal.returns
+unfolding timeout_added timeouts_after
+returns c = search rules

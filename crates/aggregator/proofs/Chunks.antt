@@ -1,0 +1,66 @@
+-- What an iterator over the rows of a table finds: `chunks_exact` with `any`. Nothing here knows what a row means. In order:
+--     item-row, some_item     the items are the rows
+--     chunks-any              whether some row passes
+-- Assumes nothing.
+use Prim.Native.Nat.{ℕ, ◌+◌, ◌*◌, ◌/◌, ◌≤◌, ◌<◌}
+use mathlib.Core.Bool.{Bool, true, false}
+use mathlib.Core.List.{List}
+use mathlib.Core.Logic.{⊎_elim}
+use mathlib.Core.Path.{◌≡◌, sym, ap, ◌∙◌}
+use native.Mathlib.Nat.{lt_of_mul-lt-mul_right, mul-div_cancel}
+use native.Mathlib.Omega.{arith}
+use denote.Param.Members.{Mut, Called}
+use denote.Ref.{Bor}
+use lib.ListN.{length}
+use Rattle.std.proofs.Common.{Some, MatchBool, IsSomeAnd, is_some}
+use Rattle.std.proofs.iter.runs.Made.{at-is}
+use Rattle.std.proofs.lemmas.Option.{slice_get_cases}
+use Rattle.std.specs.Iterator.Runs.{Run, SomeRun, EveryRun, IsChunksExactRun, CallKeepsClosure, AllItemsGive, AnyItemGives}
+use Rattle.std.specs.Slice.Iter.{chunks_exact_rest, chunks_exact_size, chunks_exact_steps}
+use Rattle.std.specs.declared.slice.ChunksExact.{ChunksExact}
+use Rattle.aggregator.specs.Rows.{row, lowest}
+use Rattle.aggregator.proofs.Rows.{lowest-some, none-found}
+
+module _ (p : Run (chunks_exact_steps {A = ℕ})) where
+  item-row : (w : ℕ) (v : List ℕ) → IsChunksExactRun p w v → (k : ℕ) (x : Bor (List ℕ)) → p.at k ≡ Some x → (k * w + w ≤ length v) × (x.now ≡ row w v k)
+  item-row w v cut k x e = let h = rw e at (cut.2 k) in (h.1, h.2.0)
+
+  some_item : (k : ℕ) → k < p.len → (x : Bor (List ℕ)) × (p.at k ≡ Some x)
+  some_item k l = ⊎_elim (λ h. (h.0, at-is p k ∙ h.2)) (λ h. absurd (omega (arith, p.long, h.0))) (slice_get_cases p.items k).1
+
+  module _ (w n : ℕ) (v : List ℕ) (long : length v ≡ n * w) (wide : 0 < w) (cut : IsChunksExactRun p w v) where
+    -- a run that is whole has every row
+    every : p.whole ≡ true → p.len ≡ n
+    every e = cut.1 e ∙ ap (λ (l : ℕ). l / w) long ∙ mul-div_cancel n wide
+
+    item_below : (k : ℕ) (x : Bor (List ℕ)) → p.at k ≡ Some x → k < n
+    item_below k x e = lt_of_mul-lt-mul_right w (omega (arith, (item-row w v cut k x e).0))
+
+-- what the runs of an iterator over v, cut at w, say
+module _ {w : ℕ} {v : List ℕ} (wide : 0 < w) (s : ChunksExact ℕ) (rest : chunks_exact_rest s ≡ v) (size : chunks_exact_size s ≡ w)
+    (runs : EveryRun (chunks_exact_steps {A = ℕ}) (λ p. 0 < chunks_exact_size p.from → IsChunksExactRun p (chunks_exact_size p.from) (chunks_exact_rest p.from))) where
+  pub rows_cut : (p : Run (chunks_exact_steps {A = ℕ})) → p.from ≡ s → IsChunksExactRun p w v
+  rows_cut p e = rw (e, rest, size) at (runs p p.seen (rw (e, size) wide))
+
+module _ (w n : ℕ) (v : List ℕ) (long : length v ≡ n * w) (wide : 0 < w) (test : List ℕ → Bool) {F : Type 0} (g : Mut F (Bor (List ℕ) × Unit {0}) Bool) (f : F)
+    (gives : (x : Bor (List ℕ)) (b : Bool) (q : F) → Called g f (x, tt) b q → (q ≡ f) × (b ≡ test x.now)) (s : ChunksExact ℕ)
+    (cut : (p : Run (chunks_exact_steps {A = ℕ})) → p.from ≡ s → IsChunksExactRun p w v) where
+  same_closure : CallKeepsClosure g f
+  same_closure a r q h = (gives a.0 r q h).0
+
+  asked : (p : Run (chunks_exact_steps {A = ℕ})) → p.from ≡ s → (b : Bool) (k : ℕ) (x : Bor (List ℕ)) → p.at k ≡ Some x → IsSomeAnd (p.at k) (λ x. Called g f (x, tt) b f) → test (row w v k) ≡ b
+  asked p e b k x q h = rw (← (item-row p w v (cut p e) k x q).1) (sym (gives x b f (rw q at h)).1)
+
+  none_passes : (p : Run (chunks_exact_steps {A = ℕ})) → p.from ≡ s → p.whole ≡ true → AllItemsGive p g f false → (j : ℕ) → j < n → test (row w v j) ≡ false
+  none_passes p e whole h j l =
+      let all : p.len ≡ n = every p w n v long wide (cut p e) whole in
+      let x = some_item p j (omega arith) in
+      asked p e false j x.0 x.1 (rw x.1 (rw x.1 at (h same_closure j)))
+
+  pub chunks-any : (r : Bool) → SomeRun (chunks_exact_steps {A = ℕ}) s (λ u. MatchBool r (AnyItemGives u g f true) ((u.whole ≡ true) × AllItemsGive u g f false))
+      → r ≡ is_some (lowest test w v n 0)
+  chunks-any true (p, e, h) =
+      let a = h same_closure in
+      let x = some_item p a.0 a.1 in
+      sym (lowest-some test w v n a.0 (item_below p w n v long wide (cut p e) a.0 x.0 x.1) (asked p e true a.0 x.0 x.1 a.2))
+  chunks-any false (p, e, h) = rw (← (none-found test w v n (none_passes p e h.0 h.1)).is)
