@@ -24,15 +24,15 @@ use Rattle.certificates.specs.declared.numbers.Round.{Round}
 use Rattle.outputs.specs.Records.{Rec, enc, enc_all, sync, clean_proposer, clean_mempool, commit_size, sync_size, clean_proposer_size, clean_mempool_size}
 use Rattle.outputs.specs.Put.{Put, Wrote}
 use Rattle.outputs.proofs.Wrote.{all_none, wrote_none, wrote_one, wrote_then, wrote-more}
+use Rattle.std.specs.Prelude.{Option, Some, None, is_some}
 use Rattle.synchronizer.specs.declared.table.Slot.{Slot}
-use Rattle.synchronizer.specs.declared.ancestors.Parent.{Parent}
 use Rattle.synchronizer.specs.declared.ancestors.Ancestors.{Ancestors}
 use Rattle.synchronizer.specs.declared.commit.Walked.{Walked}
 use Rattle.synchronizer.specs.declared.commit.Chain.{Chain}
 use Rattle.synchronizer.specs.declared.settle.Work.{Work}
 use Rattle.synchronizer.specs.declared.settle.Settled.{Settled}
 use Rattle.certificates.specs.Error.{wait_parent, table_full}
-use Rattle.synchronizer.specs.Table.{slot_at, blank, place_of, stored, store_answer, cleared, genesis, parent_of, ancestors_of, ancestors_by}
+use Rattle.synchronizer.specs.Table.{slot_at, blank, place_of, stored, store_answer, cleared, genesis, parent_of, slot_in, ancestors_of, ancestors_by}
 use Rattle.synchronizer.specs.Walk.{no_commit, commit_of, chain_of}
 use Rattle.synchronizer.specs.Settle.{Settlement, answered, is_two_chain, clean_of, commit_if, commit_rec, linked_of, wait_of, asking, processed_by, processed_of, settled_of, clean_most, settle_most, RoomFor, Settles}
 use Rattle.synchronizer.specs.Settle as spec
@@ -123,25 +123,24 @@ other-slot t k b b0 b1 p q e =
     below-some (set t k b) q.place b0.round.0 (rw (length-set t k b) q.within) (rw is (omega arith)))
 
 -- the ancestors that were found
-found-both : (p1 p0 : Parent) → (ancestors_by p1 p0).answer ≡ 0 → (p1.found ≡ true) × (p0.found ≡ true)
-found-both p1 p0 =
-    by_cases p1.found
-    (λ e. by_cases p0.found (λ f. rw (e, f) (λ _. (refl, refl))) (λ f. rw (e, f) (λ z. absurd (omega arith))))
-    (λ e. rw e (λ z. absurd (omega arith)))
+found-both : (p1 p0 : Option Slot) → (ancestors_by p1 p0).answer ≡ 0 → (is_some p1 ≡ true) × (is_some p0 ≡ true)
+found-both None p0 = λ z. absurd (omega arith)
+found-both (Some b1) None = λ z. absurd (omega arith)
+found-both (Some b1) (Some b0) = λ z. (refl, refl)
 
 pub commits-fit : (t : List Slot) (b : Slot) (last : ℕ) → (ancestors_of t b).answer ≡ 0
     → length (commit_if (stored t b) (ancestors_of t b).b0 (ancestors_of t b).b1 last).blocks ≤ length t
 unfolding ancestors_of commit_if stored is_two_chain
 commits-fit t b last e =
-    let f = found-both (parent_of t b) (parent_of t (parent_of t b).slot) e in
-    by_cases (eqb ((parent_of t (parent_of t b).slot).slot.round.0 + 1) (parent_of t b).slot.round.0)
-    (λ s. let next : (parent_of t (parent_of t b).slot).slot.round.0 + 1 ≡ (parent_of t b).slot.round.0 = eqb-true _ _ s in
-    rw s (commit-size (set t (place_of t b) b) (parent_of t (parent_of t b).slot).slot last (length t)
+    let f = found-both (parent_of t b) (parent_of t (slot_in (parent_of t b))) e in
+    by_cases (eqb ((slot_in (parent_of t (slot_in (parent_of t b)))).round.0 + 1) (slot_in (parent_of t b)).round.0)
+    (λ s. let next : (slot_in (parent_of t (slot_in (parent_of t b)))).round.0 + 1 ≡ (slot_in (parent_of t b)).round.0 = eqb-true _ _ s in
+    rw s (commit-size (set t (place_of t b) b) (slot_in (parent_of t (slot_in (parent_of t b)))) last (length t)
     (λ l. omega (
       arith,
       length-set t (place_of t b) b,
-      other-slot t (place_of t b) b (parent_of t (parent_of t b).slot).slot (parent_of t b).slot
-          (parent_in t (parent_of t b).slot f.1 (omega arith)) (parent_in t b f.0 (omega arith)) next,
+      other-slot t (place_of t b) b (slot_in (parent_of t (slot_in (parent_of t b)))) (slot_in (parent_of t b))
+          (parent_in t (slot_in (parent_of t b)) f.1 (omega arith)) (parent_in t b f.0 (omega arith)) next,
     ))))
     (λ s. rw s (omega arith))
 
