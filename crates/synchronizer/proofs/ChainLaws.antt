@@ -1,6 +1,5 @@
 -- Laws of writing a chain of COMMITs, the newest first and at falling places, so that they stand oldest first.
 --     Pending t c before b n now  once the COMMITs of n blocks, b the newest, are written into `now`, those of c are written into `before`
---     pending-all                 nothing is written yet
 --     pending-less                b is written, and its parent comes next
 --     pending-none                none is left
 -- Assumes nothing.
@@ -37,9 +36,6 @@ Written t at b n now after = Wrote (commit_size * n) (map commit_rec (chain_of n
 pub record Pending (t : List Slot) (c : Chain) (before : List ℕ) (b : Slot) (n : ℕ) (now : List ℕ) : Type 0 where
   pub small : n ≤ c.left
   pub then : (after : List ℕ) → Written t c.at b n now after → Written t c.at c.block c.left before after
-
-pub pending-all : (t : List Slot) (c : Chain) (before : List ℕ) → Pending t c before c.block c.left before
-pending-all t c before = record { small = omega arith; then = λ after w. w }
 
 -- after the last block nothing is asked of its parent
 rest-same : (n : ℕ) (t : List Slot) (b p : Slot) → (0 < n → b ≡ p) → chain_of n t b ≡ chain_of n t p

@@ -2,6 +2,8 @@
 --     slot-past       past the end there is the blank slot
 --     found-lowest    what is found is the lowest place, where that is one of the table
 --     found-at        where a slot was found, it is the one at its place
+--     given-.., no-parent, no-grandparent, both-found     a parent and the ancestors, as code comes by them
+--     store-..        a store, as code comes to it
 --     stored-length, cleared-length the table is as long as before
 -- Assumes nothing.
 use mathlib.Core.Path.{◌≡◌, refl, sym, ◌∙◌}
@@ -54,22 +56,22 @@ found-at t i =
 -- ---- parents, as code comes by them
 
 module _ (t : List Slot) (b : Slot) where
-  pub parent-genesis : {g : Slot} → is_genesis b.parent b.parent_round.0 ≡ true → g ≡ genesis → Some g ≡ parent_of t b
+  pub given-genesis : {g : Slot} → is_genesis b.parent b.parent_round.0 ≡ true → g ≡ genesis → Some g ≡ parent_of t b
   unfolding parent_of
-  parent-genesis e h = rw (e, h)
+  given-genesis e h = rw (e, h)
 
   module _ (e : is_genesis b.parent b.parent_round.0 ≡ false) where
-    pub parent-none : found_in t (Digest b.parent) ≡ None → None ≡ parent_of t b
+    pub given-none : found_in t (Digest b.parent) ≡ None → None ≡ parent_of t b
     unfolding parent_of
-    parent-none h = rw e (cases (ltb (lowest t (Digest b.parent)) (length t)) (sym (found-lowest t (Digest b.parent)) ∙ h))
+    given-none h = rw e (cases (ltb (lowest t (Digest b.parent)) (length t)) (sym (found-lowest t (Digest b.parent)) ∙ h))
       where
         cases : (u : Bool) → cond u (Some (lowest t (Digest b.parent))) None ≡ None → None ≡ cond u (Some (slot_at t (lowest t (Digest b.parent)))) None
         cases true f = absurd (none-some _ (sym f))
         cases false f = refl
 
-    pub parent-some : {i : ℕ} → found_in t (Digest b.parent) ≡ Some i → Some (slot_at t i) ≡ parent_of t b
+    pub given-some : {i : ℕ} → found_in t (Digest b.parent) ≡ Some i → Some (slot_at t i) ≡ parent_of t b
     unfolding parent_of
-    parent-some {i} h = let k = cond_some _ _ _ (sym (found-lowest t (Digest b.parent)) ∙ h) in rw (e, k.0, k.1)
+    given-some {i} h = let k = cond_some _ _ _ (sym (found-lowest t (Digest b.parent)) ∙ h) in rw (e, k.0, k.1)
 
 module _ (t : List Slot) (b : Slot) {p : Option Slot} (e : p ≡ parent_of t b) where
   -- the parent of a blank slot is genesis
