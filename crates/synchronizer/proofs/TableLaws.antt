@@ -1,5 +1,4 @@
 -- Laws of `specs/Table.antt`.
---     slot-past       past the end there is the blank slot
 --     found-lowest    what is found is the lowest place, where that is one of the table
 --     found-at        where a slot was found, it is the one at its place
 --     given-.., no-parent, no-grandparent, both-found     a parent and the ancestors, as code comes by them
@@ -7,9 +6,8 @@
 --     stored-length, cleared-length the table is as long as before
 -- Assumes nothing.
 use mathlib.Core.Path.{◌≡◌, refl, sym, ◌∙◌}
-use Prim.Native.Nat.{ℕ, zero, suc, ◌<◌, ◌≤◌}
+use Prim.Native.Nat.{ℕ, ◌<◌}
 use native.Mathlib.Omega.{arith}
-use native.Mathlib.Nat.{not-suc-le-zero, le_of_suc-le-suc}
 use mathlib.Core.Bool.{Bool, true, false, cond, true≢false}
 use mathlib.Core.List.{List, [], ◌∷◌}
 use lib.Dec.{ltb}
@@ -29,13 +27,6 @@ use Rattle.certificates.proofs.NumbersLaws.{genesis-is}
 use Rattle.std.proofs.lemmas.Option.{cond_some, none-some}
 use Rattle.synchronizer.specs.Table.{blank, slot_at, fits, lowest, found_in, place_of, stored, store_answer, cleared, genesis, found_at, parent_of, ancestors_of}
 use Rattle.synchronizer.proofs.Tests.{by_cases}
-
--- ---- a place of the table
-
-pub slot-past : (t : List Slot) (i : ℕ) → length t ≤ i → slot_at t i ≡ blank
-slot-past [] i l = refl
-slot-past (s ∷ t) zero l = absurd (not-suc-le-zero l)
-slot-past (s ∷ t) (suc i) l = slot-past t i (le_of_suc-le-suc l)
 
 -- ---- what was found
 
@@ -96,6 +87,11 @@ unfolding place_of
 place_found t b =
     rw (found-lowest t (Digest b.digest), found-lowest t Free)
     (by_cases (ltb (lowest t (Digest b.digest)) (length t)) (λ e. rw (e, e)) (λ e. rw e))
+
+-- one option, or another that is asked for where there is none
+pub or-else : (o q r : Option ℕ) → (o ≡ None → r ≡ q) → ((x : ℕ) → o ≡ Some x → r ≡ Some x) → r ≡ option_or o q
+or-else None q r f g = f refl
+or-else (Some x) q r f g = g x refl
 
 module _ (t : List Slot) (b : Slot) {r : Option ℕ} (e : r ≡ option_or (found_in t (Digest b.digest)) (found_in t Free)) where
   pub store-some : {i : ℕ} {zs : List Slot} → r ≡ Some i → zs ≡ set t i b → (0 ≡ store_answer (place_of t b) (length t)) × (zs ≡ stored t b)

@@ -14,7 +14,7 @@ use Prim.Native.Nat.{ℕ, zero, suc, ◌+◌, ◌-◌, ◌<◌, ◌≤◌}
 use native.Mathlib.Numerals.{add-one}
 use native.Mathlib.Omega.{arith}
 use native.Mathlib.Nat.{not-suc-le-zero, le_of_suc-le-suc}
-use mathlib.Core.Bool.{true, false, cond}
+use mathlib.Core.Bool.{true, false, cond, true≢false}
 use mathlib.Core.List.{List, [], ◌∷◌, ◌++◌}
 use lib.Dec.{ltb}
 use lib.ListN.{length, length-append}
@@ -30,9 +30,6 @@ use Rattle.synchronizer.specs.Walk.{Walk, refused, delivers, and_newer, on_paren
 use Rattle.synchronizer.specs.Parts.{count_of, next_walked}
 use Rattle.synchronizer.proofs.Tests.{by_cases}
 use Rattle.synchronizer.proofs.TableLaws.{found-at}
-
-never : false ≡ true → ⊥
-never g = let z : ◌≡◌ {A = ℕ} 0 1 = cc in omega arith
 
 -- ---- slots below a round
 
@@ -118,13 +115,13 @@ pub on-parent-found : (b : Slot) (last : ℕ) (p : Option Slot) (w : Walk) → i
     → on_parent b last p w
     ≡ cond (ltb (slot_in p).round.0 b.round.0) (cond (ltb last (slot_in p).round.0) (and_newer w b) (delivers (b ∷ []))) (refused round_not_below)
 unfolding on_parent
-on-parent-found b last None w e = absurd (never e)
+on-parent-found b last None w e = absurd (true≢false (sym e))
 on-parent-found b last (Some p) w e = refl
 
 pub on-parent-absent : (b : Slot) (last : ℕ) (p : Option Slot) (w : Walk) → is_some p ≡ false → on_parent b last p w ≡ refused ancestor_absent
 unfolding on_parent
 on-parent-absent b last None w e = refl
-on-parent-absent b last (Some p) w e = absurd (never (sym e))
+on-parent-absent b last (Some p) w e = absurd (true≢false e)
 
 -- the rest matters only where the parent is delivered
 on-parent-same : (b : Slot) (last : ℕ) (p : Option Slot) (w v : Walk) → (is_some p ≡ true → (slot_in p).round.0 < b.round.0 → last < (slot_in p).round.0 → w ≡ v)

@@ -99,15 +99,10 @@ pub fn clear(table: &mut [Slot])
 pub fn store(table: &mut [Slot], block: Slot) -> u16
     ensures { (result ≡ store_answer (place_of table.old block) (length table.old)) × (table.new ≡ stored table.old block) }
 {
-    let place = match find(table, Want::Digest(block.digest)) {
-        Some(i) => Some(i),
-        None => find(table, Want::Free),
+    let same = find(table, Want::Digest(block.digest));
+    let Some(i) = same.or_else(|| find(table, Want::Free)) else {
+        return TABLE_FULL;
     };
-    match place {
-        Some(i) => {
-            put_at(table, i, block);
-            DONE
-        }
-        None => TABLE_FULL,
-    }
+    put_at(table, i, block);
+    DONE
 }
