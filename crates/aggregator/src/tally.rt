@@ -101,15 +101,12 @@ impl Key for VoteKey {
     fn is_of(self, t: &[u64]) -> bool {
         t[USED] != 0
             && t[ROUND] == self.round.0
-            && same_hash(
-                Hash {
-                    a: t[HASH_A],
-                    b: t[HASH_B],
-                    c: t[HASH_C],
-                    d: t[HASH_D],
-                },
-                self.hash,
-            )
+            && Hash {
+                a: t[HASH_A],
+                b: t[HASH_B],
+                c: t[HASH_C],
+                d: t[HASH_D],
+            } == self.hash
     }
 
     fn open(self, t: &mut [u64]) {

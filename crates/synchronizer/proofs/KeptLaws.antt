@@ -8,12 +8,12 @@ use mathlib.Core.Logic.{◌⊎◌, inl, inr}
 use mathlib.Core.Path.{◌≡◌, refl, ◌∙◌, ap}
 use lib.Dec.{eqb, ltb}
 use lib.ListN.{length}
-use Rattle.certificates.specs.Error.{wait_parent, table_full, ancestor_absent, round_not_below}
+use Rattle.certificates.specs.Error.{table_full, ancestor_absent, round_not_below}
 use Rattle.outputs.specs.Records.{Rec}
+use Rattle.std.specs.Prelude.{Option, Some, None}
 use Rattle.synchronizer.specs.declared.table.Slot.{Slot}
-use Rattle.synchronizer.specs.declared.ancestors.Parent.{Parent}
 use Rattle.synchronizer.specs.declared.settle.Work.{Work}
-use Rattle.synchronizer.specs.Table.{place_of, stored, parent_of, ancestors_by, ancestors_of}
+use Rattle.synchronizer.specs.Table.{place_of, stored, parent_of, slot_in, ancestors_by, ancestors_of}
 use Rattle.synchronizer.specs.Walk.{Walk, refused as stopped, delivers, and_newer, on_parent, walk_from, walk_of, Commit, committed_by, commit_of, no_commit}
 use Rattle.synchronizer.specs.Settle.{Settlement, answered, is_two_chain, clean_of, commit_if, linked_of, processed_by, processed_of, wait_of, asking, settled_of, block}
 use Rattle.synchronizer.specs.Kept.{linked, Keeps}
@@ -33,24 +33,24 @@ unfolding StopsBy
 stops-newer (stopped n) b h = h
 stops-newer (delivers bs) b h = tt
 
-stops-parent : (b : Slot) (last : ℕ) (p : Parent) (w : Walk) → StopsBy w → StopsBy (on_parent b last p w)
+stops-parent : (b : Slot) (last : ℕ) (p : Option Slot) (w : Walk) → StopsBy w → StopsBy (on_parent b last p w)
 unfolding on_parent StopsBy
-stops-parent b last p w h = cases p.found (ltb p.slot.round.0 b.round.0) (ltb last p.slot.round.0)
+stops-parent b last None w h = inl refl
+stops-parent b last (Some p) w h = cases (ltb p.round.0 b.round.0) (ltb last p.round.0)
   where
-    cases : (x y z : Bool) → StopsBy (cond x (cond y (cond z (and_newer w b) (delivers (b ∷ []))) (stopped round_not_below)) (stopped ancestor_absent))
-    cases true true true = stops-newer w b h
-    cases true true false = tt
-    cases true false z = inr refl
-    cases false y z = inl refl
+    cases : (y z : Bool) → StopsBy (cond y (cond z (and_newer w b) (delivers (b ∷ []))) (stopped round_not_below))
+    cases true true = stops-newer w b h
+    cases true false = tt
+    cases false z = inr refl
 
 stops-walk : (n : ℕ) (t : List Slot) (b : Slot) (last : ℕ) → StopsBy (walk_from n t b last)
 unfolding walk_from StopsBy
 stops-walk zero t b last = inr refl
-stops-walk (suc n) t b last = cases (ltb (last + 1) b.round.0) (stops-walk n t (parent_of t b).slot last)
+stops-walk (suc n) t b last = cases (ltb (last + 1) b.round.0) (stops-walk n t (slot_in (parent_of t b)) last)
   where
-    cases : (u : Bool) → StopsBy (walk_from n t (parent_of t b).slot last)
-        → StopsBy (cond u (on_parent b last (parent_of t b) (walk_from n t (parent_of t b).slot last)) (delivers (b ∷ [])))
-    cases true h = stops-parent b last (parent_of t b) (walk_from n t (parent_of t b).slot last) h
+    cases : (u : Bool) → StopsBy (walk_from n t (slot_in (parent_of t b)) last)
+        → StopsBy (cond u (on_parent b last (parent_of t b) (walk_from n t (slot_in (parent_of t b)) last)) (delivers (b ∷ [])))
+    cases true h = stops-parent b last (parent_of t b) (walk_from n t (slot_in (parent_of t b)) last) h
     cases false h = tt
 
 abbrev nothing_by : ℕ → ℕ → Commit
@@ -98,14 +98,11 @@ module _ (t : List Slot) (w : Work) where
   linked-rows (inr (inr e)) =
       inr (inr (inr (inr (inl (rw e (ap (answered round_not_below (stored t w.block) w.last.0) (append-nil (clean ++ []) ∙ append-nil clean)))))))
 
-  ancestors-rows : (p1 p0 : Parent) → eqb (ancestors_by p1 p0).answer 0 ≡ false → Keeps t w (asking w (answered (ancestors_by p1 p0).answer t w.last.0 []))
+  ancestors-rows : (p1 p0 : Option Slot) → eqb (ancestors_by p1 p0).answer 0 ≡ false → Keeps t w (asking w (answered (ancestors_by p1 p0).answer t w.last.0 []))
   unfolding wait_of
-  ancestors-rows p1 p0 e = cases p1.found p0.found e
-    where
-      cases : (x y : Bool) → eqb (cond x (cond y 0 ancestor_absent) wait_parent) 0 ≡ false → Keeps t w (asking w (answered (cond x (cond y 0 ancestor_absent) wait_parent) t w.last.0 []))
-      cases true true e = absurd (true≢false e)
-      cases true false e = inr (inr (inl refl))
-      cases false y e = inl refl
+  ancestors-rows None p0 e = inl refl
+  ancestors-rows (Some _) None e = inr (inr (inl refl))
+  ancestors-rows (Some _) (Some _) e = absurd (true≢false e)
 
   processed-rows : Keeps t w (asking w (processed_of t w))
   unfolding processed_by ancestors_of wait_of
@@ -115,7 +112,7 @@ module _ (t : List Slot) (w : Work) where
           → Keeps t w (asking w (cond u (cond v (linked t w) (answered table_full t w.last.0 [])) (answered (ancestors_of t w.block).answer t w.last.0 [])))
       cases true true e = linked-rows (commit-rows (stored t w.block) b0 b1 w.last.0)
       cases true false e = inr (inl refl)
-      cases false v e = ancestors-rows (parent_of t w.block) (parent_of t (parent_of t w.block).slot) e
+      cases false v e = ancestors-rows (parent_of t w.block) (parent_of t (slot_in (parent_of t w.block))) e
 
   pub settled-keeps : w.does ≡ block → Keeps t w (settled_of t w)
   settled-keeps e = rw (settled-block t w e) processed-rows

@@ -30,15 +30,16 @@ use Rattle.certificates.specs.Numbers.{same_hash}
 use Rattle.certificates.specs.Messages.{is_genesis}
 use Rattle.certificates.proofs.NumbersLaws.{hash-same, hash-self, genesis-is}
 use Rattle.certificates.specs.Error.{wait_parent, table_full, ancestor_absent, round_not_below}
+use Rattle.std.specs.Prelude.{Option, Some, is_some}
 use Rattle.synchronizer.specs.declared.table.Slot.{Slot}
 use Rattle.synchronizer.specs.declared.table.Want.{Want}
-use Rattle.synchronizer.specs.declared.ancestors.Parent.{Parent}
-use Rattle.synchronizer.specs.Table.{blank, slot_at, want_digest, want_free, fits, lowest, place_of, stored, cleared, genesis, parent_of, ancestors_of}
+use Rattle.synchronizer.specs.declared.table.Want.TheVariants.{Free, Digest}
+use Rattle.synchronizer.specs.Table.{blank, slot_at, fits, lowest, place_of, stored, cleared, genesis, parent_of, slot_in, ancestors_of}
 use Rattle.synchronizer.specs.declared.settle.Work.{Work}
 use Rattle.synchronizer.specs.Walk.{Walk, refused, delivers, and_newer, on_parent, walk_from, walk_of, committed_by, commit_of, no_commit}
 use Rattle.synchronizer.specs.Settle.{answered, is_two_chain, commit_if, linked_of, processed_by, settled_of, block}
-use Rattle.synchronizer.proofs.TableLaws.{stored-length}
-use Rattle.synchronizer.proofs.WalkLaws.{walk_step}
+use Rattle.synchronizer.proofs.TableLaws.{stored-length, found-at}
+use Rattle.synchronizer.proofs.WalkLaws.{walk_step, on-parent-found, on-parent-absent}
 use Rattle.synchronizer.proofs.SettleLaws.{settled-block}
 
 pub record Has (t : List Slot) (s : Slot) : Type 0 where
@@ -73,7 +74,7 @@ fits-lowest (s ∷ t) w (suc i) l f = cases (fits s w) (fits-lowest t w i (omega
     cases true h = omega arith
     cases false h = omega arith
 
-fits-digest : (s : Slot) (h : Hash) → fits s (want_digest h) ≡ true → (s.used ≡ true) × (s.digest ≡ h)
+fits-digest : (s : Slot) (h : Hash) → fits s (Digest h) ≡ true → (s.used ≡ true) × (s.digest ≡ h)
 unfolding fits
 fits-digest s h e = cases s.used refl e
   where
@@ -81,35 +82,38 @@ fits-digest s h e = cases s.used refl e
     cases true u f = (u, hash-same s.digest h f)
     cases false u f = never (sym f)
 
-digest-fits : (s : Slot) → s.used ≡ true → fits s (want_digest s.digest) ≡ true
+digest-fits : (s : Slot) → s.used ≡ true → fits s (Digest s.digest) ≡ true
 unfolding fits
 digest-fits s u = rw u (hash-self s.digest)
 
 -- A lookup that finds something finds a slot in use, with the digest that was asked for.
-pub looked-up : (t : List Slot) (h : Hash) → lowest t (want_digest h) < length t → Has t (slot_at t (lowest t (want_digest h))) × ((slot_at t (lowest t (want_digest h))).digest ≡ h)
+pub looked-up : (t : List Slot) (h : Hash) → lowest t (Digest h) < length t → Has t (slot_at t (lowest t (Digest h))) × ((slot_at t (lowest t (Digest h))).digest ≡ h)
 looked-up t h l =
-    let f = fits-digest (slot_at t (lowest t (want_digest h))) h (lowest-fits t (want_digest h) l) in
-    (record { place = lowest t (want_digest h); within = l; is = refl; used = f.0 }, f.1)
+    let f = fits-digest (slot_at t (lowest t (Digest h))) h (lowest-fits t (Digest h) l) in
+    (record { place = lowest t (Digest h); within = l; is = refl; used = f.0 }, f.1)
 
 -- And it finds something where a slot in use has that digest.
-pub found-has : (t : List Slot) (s : Slot) → Has t s → lowest t (want_digest s.digest) < length t
-found-has t s h = fits-lowest t (want_digest s.digest) h.place h.within (rw (← h.is) (digest-fits s h.used))
+pub found-has : (t : List Slot) (s : Slot) → Has t s → lowest t (Digest s.digest) < length t
+found-has t s h = fits-lowest t (Digest s.digest) h.place h.within (rw (← h.is) (digest-fits s h.used))
 
 -- ---- parents
 
-pub parent-has : (t : List Slot) (b : Slot) → is_genesis b.parent b.parent_round.0 ≡ false → (parent_of t b).found ≡ true
-    → Has t (parent_of t b).slot × ((parent_of t b).slot.digest ≡ b.parent)
+pub parent-has : (t : List Slot) (b : Slot) → is_genesis b.parent b.parent_round.0 ≡ false → is_some (parent_of t b) ≡ true
+    → Has t (slot_in (parent_of t b)) × ((slot_in (parent_of t b)).digest ≡ b.parent)
 unfolding parent_of
-parent-has t b g f = rw g (looked-up t b.parent (ltb-true _ _ (rw g at f)))
+parent-has t b g =
+    rw g
+    (λ f. let k = found-at t (lowest t (Digest b.parent)) f in
+    rw k.1 (looked-up t b.parent k.0))
 
-pub parent-genesis : (t : List Slot) (b : Slot) → is_genesis b.parent b.parent_round.0 ≡ true → parent_of t b ≡ record { found = true; slot = genesis }
+pub parent-genesis : (t : List Slot) (b : Slot) → is_genesis b.parent b.parent_round.0 ≡ true → parent_of t b ≡ Some genesis
 unfolding parent_of
 parent-genesis t b g = rw g
 
 -- the parent is found where a slot in use has the digest that the QC names
-found-parent : (t : List Slot) (b : Slot) → is_genesis b.parent b.parent_round.0 ≡ false → (c : Slot) → Has t c → c.digest ≡ b.parent → (parent_of t b).found ≡ true
+found-parent : (t : List Slot) (b : Slot) → is_genesis b.parent b.parent_round.0 ≡ false → (c : Slot) → Has t c → c.digest ≡ b.parent → is_some (parent_of t b) ≡ true
 unfolding parent_of
-found-parent t b g c h e = rw g (lt-ltb _ _ (rw e at (found-has t c h)))
+found-parent t b g c h e = rw (g, lt-ltb _ _ (rw e at (found-has t c h)))
 
 -- ---- what is in a table
 
@@ -132,20 +136,20 @@ cleared-has t s h = never (sym h.used ∙ ap (λ (x : Slot). x.used) h.is ∙ bl
 
 -- ---- a digest that is in a table stays in it
 
-free-unused : (s : Slot) → fits s want_free ≡ true → s.used ≡ true → ⊥
+free-unused : (s : Slot) → fits s Free ≡ true → s.used ≡ true → ⊥
 unfolding fits
 free-unused s f v = never (sym (rw v at f))
 
 -- a block takes the place of a slot that is free, or has its digest
 place-takes : (t : List Slot) (b : Slot) (c : Slot) → c ≡ slot_at t (place_of t b) → place_of t b < length t → c.used ≡ true → c.digest ≡ b.digest
 unfolding place_of
-place-takes t b c e l u = cases (ltb (lowest t (want_digest b.digest)) (length t)) refl e l
+place-takes t b c e l u = cases (ltb (lowest t (Digest b.digest)) (length t)) refl e l
   where
-    cases : (x : Bool) → ltb (lowest t (want_digest b.digest)) (length t) ≡ x
-        → c ≡ slot_at t (cond x (lowest t (want_digest b.digest)) (lowest t want_free)) → cond x (lowest t (want_digest b.digest)) (lowest t want_free) < length t
+    cases : (x : Bool) → ltb (lowest t (Digest b.digest)) (length t) ≡ x
+        → c ≡ slot_at t (cond x (lowest t (Digest b.digest)) (lowest t Free)) → cond x (lowest t (Digest b.digest)) (lowest t Free) < length t
         → c.digest ≡ b.digest
     cases true f e l = ap (λ (s : Slot). s.digest) e ∙ (looked-up t b.digest l).1
-    cases false f e l = absurd (free-unused c (rw e (lowest-fits t want_free l)) u)
+    cases false f e l = absurd (free-unused c (rw e (lowest-fits t Free l)) u)
 
 pub stored-keeps : (t : List Slot) (b c : Slot) → b.used ≡ true → Has t c → (s : Slot) × Has (stored t b) s × (s.digest ≡ c.digest)
 unfolding stored
@@ -161,27 +165,27 @@ stored-keeps t b c u h =
 -- ---- closed tables: "a block is stored only where its parent is, and nothing is removed"
 
 pub record Closed (t : List Slot) : Type 0 where
-  pub parent : (s : Slot) → Has t s → (parent_of t s).found ≡ true
+  pub parent : (s : Slot) → Has t s → is_some (parent_of t s) ≡ true
 
 pub closed-cleared : (t : List Slot) → Closed (cleared t)
 closed-cleared t = record { parent = λ s h. absurd (cleared-has t s h) }
 
 module _ (t : List Slot) (b : Slot) where
   -- a parent that was found is found after the store
-  pub stays-found : (s : Slot) → b.used ≡ true → (parent_of t s).found ≡ true → (parent_of (stored t b) s).found ≡ true
+  pub stays-found : (s : Slot) → b.used ≡ true → is_some (parent_of t s) ≡ true → is_some (parent_of (stored t b) s) ≡ true
   stays-found s u f = cases (is_genesis s.parent s.parent_round.0) refl
     where
-      cases : (g : Bool) → is_genesis s.parent s.parent_round.0 ≡ g → (parent_of (stored t b) s).found ≡ true
-      cases true g = ap (λ (p : Parent). p.found) (parent-genesis (stored t b) s g)
+      cases : (g : Bool) → is_genesis s.parent s.parent_round.0 ≡ g → is_some (parent_of (stored t b) s) ≡ true
+      cases true g = ap is_some (parent-genesis (stored t b) s g)
       cases false g =
           let h = parent-has t s g f in
-          let k = stored-keeps t b (parent_of t s).slot u h.0 in
+          let k = stored-keeps t b (slot_in (parent_of t s)) u h.0 in
           found-parent (stored t b) s g k.0 k.1 (k.2 ∙ h.1)
 
-  pub closed-stored : Closed t → b.used ≡ true → (parent_of t b).found ≡ true → Closed (stored t b)
+  pub closed-stored : Closed t → b.used ≡ true → is_some (parent_of t b) ≡ true → Closed (stored t b)
   closed-stored c u f = record { parent = λ s h. new s (stored-has t b s h) }
     where
-      new : (s : Slot) → (s ≡ b) ⊎ Has t s → (parent_of (stored t b) s).found ≡ true
+      new : (s : Slot) → (s ≡ b) ⊎ Has t s → is_some (parent_of (stored t b) s) ≡ true
       new s (inl e) = rw e (stays-found b u f)
       new s (inr h) = stays-found s u (c.parent s h)
 
@@ -190,9 +194,9 @@ both_found true true e = (refl, refl)
 both_found true false e = absurd (omega arith)
 both_found false y e = absurd (omega arith)
 
-pub ancestors-both : (t : List Slot) (b : Slot) → (ancestors_of t b).answer ≡ 0 → ((parent_of t b).found ≡ true) × ((parent_of t (ancestors_of t b).b1).found ≡ true)
+pub ancestors-both : (t : List Slot) (b : Slot) → (ancestors_of t b).answer ≡ 0 → (is_some (parent_of t b) ≡ true) × (is_some (parent_of t (ancestors_of t b).b1) ≡ true)
 unfolding ancestors_of
-ancestors-both t b e = both_found (parent_of t b).found (parent_of t (parent_of t b).slot).found e
+ancestors-both t b e = both_found (is_some (parent_of t b)) (is_some (parent_of t (slot_in (parent_of t b)))) e
 
 -- b1 is named by the block's QC and b0 by that of b1, and neither is genesis
 pub record Line (t : List Slot) (b : Slot) : Type 0 where
@@ -207,23 +211,23 @@ pub line : (t : List Slot) (b : Slot) → (ancestors_of t b).answer ≡ 0 → 0 
 unfolding ancestors_of
 line t b e l0 l1 = one (is_genesis b.parent b.parent_round.0) refl
   where
-    f : ((parent_of t b).found ≡ true) × ((parent_of t (parent_of t b).slot).found ≡ true)
-    f = both_found (parent_of t b).found (parent_of t (parent_of t b).slot).found e
+    f : (is_some (parent_of t b) ≡ true) × (is_some (parent_of t (slot_in (parent_of t b))) ≡ true)
+    f = both_found (is_some (parent_of t b)) (is_some (parent_of t (slot_in (parent_of t b)))) e
 
-    two : (g : Bool) → is_genesis b.parent b.parent_round.0 ≡ false → is_genesis (parent_of t b).slot.parent (parent_of t b).slot.parent_round.0 ≡ g → Line t b
+    two : (g : Bool) → is_genesis b.parent b.parent_round.0 ≡ false → is_genesis (slot_in (parent_of t b)).parent (slot_in (parent_of t b)).parent_round.0 ≡ g → Line t b
     two true o g =
-        let z : (parent_of t (parent_of t b).slot).slot.round.0 ≡ 0 = ap (λ (p : Parent). p.slot.round.0) (parent-genesis t (parent_of t b).slot g) in
+        let z : (slot_in (parent_of t (slot_in (parent_of t b)))).round.0 ≡ 0 = ap (λ (p : Option Slot). (slot_in p).round.0) (parent-genesis t (slot_in (parent_of t b)) g) in
         absurd (omega arith)
     two false o g =
         let h1 = parent-has t b o f.0 in
-        let h0 = parent-has t (parent_of t b).slot g f.1 in
+        let h0 = parent-has t (slot_in (parent_of t b)) g f.1 in
         record { other1 = o; has1 = h1.0; on1 = h1.1; other0 = g; has0 = h0.0; on0 = h0.1 }
 
     one : (g : Bool) → is_genesis b.parent b.parent_round.0 ≡ g → Line t b
     one true g =
-        let z : (parent_of t b).slot.round.0 ≡ 0 = ap (λ (p : Parent). p.slot.round.0) (parent-genesis t b g) in
+        let z : (slot_in (parent_of t b)).round.0 ≡ 0 = ap (λ (p : Option Slot). (slot_in p).round.0) (parent-genesis t b g) in
         absurd (omega arith)
-    one false g = two (is_genesis (parent_of t b).slot.parent (parent_of t b).slot.parent_round.0) g refl
+    one false g = two (is_genesis (slot_in (parent_of t b)).parent (slot_in (parent_of t b)).parent_round.0) g refl
 
 absent-found : (x y : Bool) → cond x (cond y 0 ancestor_absent) wait_parent ≡ ancestor_absent → (x ≡ true) × (y ≡ false)
 absent-found true true e = absurd (omega arith)
@@ -234,12 +238,12 @@ absent-found false y e = absurd (omega arith)
 pub closed-ancestors : (t : List Slot) (b : Slot) → Closed t → (ancestors_of t b).answer ≡ ancestor_absent → ⊥
 unfolding ancestors_of
 closed-ancestors t b c e =
-    let f = absent-found (parent_of t b).found (parent_of t (parent_of t b).slot).found e in
+    let f = absent-found (is_some (parent_of t b)) (is_some (parent_of t (slot_in (parent_of t b)))) e in
     cases (is_genesis b.parent b.parent_round.0) refl f.0 f.1
   where
-    cases : (g : Bool) → is_genesis b.parent b.parent_round.0 ≡ g → (parent_of t b).found ≡ true → (parent_of t (parent_of t b).slot).found ≡ false → ⊥
-    cases true g f h = never (sym (ap (λ (p : Parent). p.found) (parent-genesis t genesis genesis-is)) ∙ rw (ap (λ (p : Parent). p.slot) (parent-genesis t b g)) at h)
-    cases false g f h = never (sym (c.parent (parent_of t b).slot (parent-has t b g f).0) ∙ h)
+    cases : (g : Bool) → is_genesis b.parent b.parent_round.0 ≡ g → is_some (parent_of t b) ≡ true → is_some (parent_of t (slot_in (parent_of t b))) ≡ false → ⊥
+    cases true g f h = never (sym (ap is_some (parent-genesis t genesis genesis-is)) ∙ rw (ap slot_in (parent-genesis t b g)) at h)
+    cases false g f h = never (sym (c.parent (slot_in (parent_of t b)) (parent-has t b g f).0) ∙ h)
 
 -- ---- walks
 
@@ -269,53 +273,53 @@ module _ (t : List Slot) (last : ℕ) where
   no_walk : {A : Type 0} (n : ℕ) (bs : List Slot) → refused n ≡ delivers bs → A
   no_walk n bs e = absurd (let z : ◌≡◌ {A = ℕ} 0 1 = cc in omega arith)
 
-  ends_at : (b : Slot) → (parent_of t b).found ≡ true → (parent_of t b).slot.round.0 ≤ last → Walked (Has t) last b (b ∷ [])
+  ends_at : (b : Slot) → is_some (parent_of t b) ≡ true → (slot_in (parent_of t b)).round.0 ≤ last → Walked (Has t) last b (b ∷ [])
   ends_at b f l = cases (is_genesis b.parent b.parent_round.0) refl
     where
       cases : (g : Bool) → is_genesis b.parent b.parent_round.0 ≡ g → Walked (Has t) last b (b ∷ [])
       cases true g = bottom g
-      cases false g = let h = parent-has t b g f in stop (parent_of t b).slot g h.1 h.0 l
+      cases false g = let h = parent-has t b g f in stop (slot_in (parent_of t b)) g h.1 h.0 l
 
-  goes_on : (b : Slot) (cs : List Slot) → (parent_of t b).found ≡ true → last < (parent_of t b).slot.round.0 → Walked (Has t) last (parent_of t b).slot cs
+  goes_on : (b : Slot) (cs : List Slot) → is_some (parent_of t b) ≡ true → last < (slot_in (parent_of t b)).round.0 → Walked (Has t) last (slot_in (parent_of t b)) cs
       → Walked (Has t) last b (cs ++ b ∷ [])
   goes_on b cs f l w = cases (is_genesis b.parent b.parent_round.0) refl
     where
       cases : (g : Bool) → is_genesis b.parent b.parent_round.0 ≡ g → Walked (Has t) last b (cs ++ b ∷ [])
       cases true g =
-          let z : (parent_of t b).slot.round.0 ≡ 0 = ap (λ (p : Parent). p.slot.round.0) (parent-genesis t b g) in
+          let z : (slot_in (parent_of t b)).round.0 ≡ 0 = ap (λ (p : Option Slot). (slot_in p).round.0) (parent-genesis t b g) in
           absurd (omega arith)
-      cases false g = let h = parent-has t b g f in more (parent_of t b).slot g h.1 h.0 l w
+      cases false g = let h = parent-has t b g f in more (slot_in (parent_of t b)) g h.1 h.0 l w
 
   walk_from_lem : (n : ℕ) (b : Slot) (bs : List Slot) → walk_from n t b last ≡ delivers bs → Walked (Has t) last b bs
-  unfolding walk_from on_parent
+  unfolding walk_from
   walk_from_lem zero b bs e = no_walk _ bs e
   walk_from_lem (suc n) b bs e = far (ltb (last + 1) b.round.0) refl e (λ c cs. walk_from_lem n c cs)
     where
       Rest : Type 0
       Rest = (c : Slot) (cs : List Slot) → walk_from n t c last ≡ delivers cs → Walked (Has t) last c cs
 
-      above : (u : Bool) → ltb last (parent_of t b).slot.round.0 ≡ u → (parent_of t b).found ≡ true
-          → cond u (and_newer (walk_from n t (parent_of t b).slot last) b) (delivers (b ∷ [])) ≡ delivers bs → Rest → Walked (Has t) last b bs
+      above : (u : Bool) → ltb last (slot_in (parent_of t b)).round.0 ≡ u → is_some (parent_of t b) ≡ true
+          → cond u (and_newer (walk_from n t (slot_in (parent_of t b)) last) b) (delivers (b ∷ [])) ≡ delivers bs → Rest → Walked (Has t) last b bs
       above true l f e rest =
-          let x = newer-is (walk_from n t (parent_of t b).slot last) b bs e in
-          rw x.2 (goes_on b x.0 f (ltb-true _ _ l) (rest (parent_of t b).slot x.0 x.1))
+          let x = newer-is (walk_from n t (slot_in (parent_of t b)) last) b bs e in
+          rw x.2 (goes_on b x.0 f (ltb-true _ _ l) (rest (slot_in (parent_of t b)) x.0 x.1))
       above false l f e rest = rw (one-is b bs e) (ends_at b f (ltb-false _ _ l))
 
-      lower : (u : Bool) → (parent_of t b).found ≡ true
-          → cond u (cond (ltb last (parent_of t b).slot.round.0) (and_newer (walk_from n t (parent_of t b).slot last) b) (delivers (b ∷ []))) (refused round_not_below) ≡ delivers bs
+      lower : (u : Bool) → is_some (parent_of t b) ≡ true
+          → cond u (cond (ltb last (slot_in (parent_of t b)).round.0) (and_newer (walk_from n t (slot_in (parent_of t b)) last) b) (delivers (b ∷ []))) (refused round_not_below) ≡ delivers bs
           → Rest → Walked (Has t) last b bs
-      lower true f e rest = above (ltb last (parent_of t b).slot.round.0) refl f e rest
+      lower true f e rest = above (ltb last (slot_in (parent_of t b)).round.0) refl f e rest
       lower false f e rest = no_walk _ bs e
 
-      there : (u : Bool) → (parent_of t b).found ≡ u
-          → cond u (cond (ltb (parent_of t b).slot.round.0 b.round.0) (cond (ltb last (parent_of t b).slot.round.0) (and_newer (walk_from n t (parent_of t b).slot last) b) (delivers (b ∷ []))) (refused round_not_below)) (refused ancestor_absent) ≡ delivers bs
+      there : (u : Bool) → is_some (parent_of t b) ≡ u
+          → on_parent b last (parent_of t b) (walk_from n t (slot_in (parent_of t b)) last) ≡ delivers bs
           → Rest → Walked (Has t) last b bs
-      there true f e rest = lower (ltb (parent_of t b).slot.round.0 b.round.0) f e rest
-      there false f e rest = no_walk _ bs e
+      there true f e rest = lower (ltb (slot_in (parent_of t b)).round.0 b.round.0) f (sym (on-parent-found b last (parent_of t b) _ f) ∙ e) rest
+      there false f e rest = no_walk _ bs (sym (on-parent-absent b last (parent_of t b) _ f) ∙ e)
 
-      far : (u : Bool) → ltb (last + 1) b.round.0 ≡ u → cond u (on_parent b last (parent_of t b) (walk_from n t (parent_of t b).slot last)) (delivers (b ∷ [])) ≡ delivers bs
+      far : (u : Bool) → ltb (last + 1) b.round.0 ≡ u → cond u (on_parent b last (parent_of t b) (walk_from n t (slot_in (parent_of t b)) last)) (delivers (b ∷ [])) ≡ delivers bs
           → Rest → Walked (Has t) last b bs
-      far true l e rest = there (parent_of t b).found refl e rest
+      far true l e rest = there (is_some (parent_of t b)) refl e rest
       far false l e rest = rw (one-is b bs e) (near {s = b} (omega (arith, ltb-false (last + 1) b.round.0 l)))
 
   -- A walk that delivers goes over slots of the table.
@@ -327,27 +331,26 @@ module _ (t : List Slot) (last : ℕ) where
 
   -- what a walk needs at the slot s: its parent is found and is of a lower round, and P holds of a parent that is walked
   pub record Sure (P : Slot → Type 0) (s : Slot) : Type 0 where
-    pub found : (parent_of t s).found ≡ true
-    pub lower : (parent_of t s).slot.round.0 < s.round.0
-    pub next : last < (parent_of t s).slot.round.0 → P (parent_of t s).slot
+    pub found : is_some (parent_of t s) ≡ true
+    pub lower : (slot_in (parent_of t s)).round.0 < s.round.0
+    pub next : last < (slot_in (parent_of t s)).round.0 → P (slot_in (parent_of t s))
 
   module _ (P : Slot → Type 0) (sure : (s : Slot) → P s → Sure P s) where
     newer-delivers : (w : Walk) (b : Slot) → (cs : List Slot) × (w ≡ delivers cs) → (bs : List Slot) × (and_newer w b ≡ delivers bs)
     newer-delivers w b k = (k.0 ++ b ∷ [], rw k.1 refl)
 
     delivers-from : (n : ℕ) (b : Slot) → b.round.0 < n → P b → (bs : List Slot) × (walk_of t b last ≡ delivers bs)
-    unfolding on_parent
     delivers-from zero b l k = absurd (omega arith)
     delivers-from (suc n) b l k =
         let s = sure b k in
         let step = walk_step t b last in
-        rw (step, s.found, lt-ltb (parent_of t b).slot.round.0 b.round.0 s.lower)
-        (cases (ltb (last + 1) b.round.0) (ltb last (parent_of t b).slot.round.0) refl (λ h. delivers-from n (parent_of t b).slot (omega (arith, s.lower)) (s.next h)))
+        rw (step, on-parent-found b last (parent_of t b) _ s.found, lt-ltb (slot_in (parent_of t b)).round.0 b.round.0 s.lower)
+        (cases (ltb (last + 1) b.round.0) (ltb last (slot_in (parent_of t b)).round.0) refl (λ h. delivers-from n (slot_in (parent_of t b)) (omega (arith, s.lower)) (s.next h)))
       where
-        cases : (u v : Bool) → ltb last (parent_of t b).slot.round.0 ≡ v
-            → (last < (parent_of t b).slot.round.0 → (cs : List Slot) × (walk_of t (parent_of t b).slot last ≡ delivers cs))
-            → (bs : List Slot) × (cond u (cond v (and_newer (walk_of t (parent_of t b).slot last) b) (delivers (b ∷ []))) (delivers (b ∷ [])) ≡ delivers bs)
-        cases true true e f = newer-delivers (walk_of t (parent_of t b).slot last) b (f (ltb-true _ _ e))
+        cases : (u v : Bool) → ltb last (slot_in (parent_of t b)).round.0 ≡ v
+            → (last < (slot_in (parent_of t b)).round.0 → (cs : List Slot) × (walk_of t (slot_in (parent_of t b)) last ≡ delivers cs))
+            → (bs : List Slot) × (cond u (cond v (and_newer (walk_of t (slot_in (parent_of t b)) last) b) (delivers (b ∷ []))) (delivers (b ∷ [])) ≡ delivers bs)
+        cases true true e f = newer-delivers (walk_of t (slot_in (parent_of t b)) last) b (f (ltb-true _ _ e))
         cases true false e f = (b ∷ [], refl)
         cases false v e f = (b ∷ [], refl)
 
@@ -383,7 +386,7 @@ module _ (t : List Slot) (w : Work) (n : ℕ) (ne : n ≡ 0 → ⊥) (nw : n ≡
 
   by-ancestors : (ancestors_of t b).answer ≡ n → n ≡ ancestor_absent
   unfolding ancestors_of
-  by-ancestors e = cases (parent_of t b).found (parent_of t (parent_of t b).slot).found e
+  by-ancestors e = cases (is_some (parent_of t b)) (is_some (parent_of t (slot_in (parent_of t b)))) e
     where
       cases : (x y : Bool) → cond x (cond y 0 ancestor_absent) wait_parent ≡ n → n ≡ ancestor_absent
       cases true true e = absurd (ne (sym e))

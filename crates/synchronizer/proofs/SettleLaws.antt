@@ -1,6 +1,6 @@
 -- Laws of `specs/Settle.antt` and of the parts of it in `specs/Parts.antt`.
 --     commits-fit              at most as many COMMITs as slots: after the store b1's slot or b0's is still there, and neither is below b0
---     next-.., two-.., head-.., by-.., asks-..    the ways out of the functions on values
+--     clean-.., head-.., asks-..    the ways out of the functions on values
 --     admit-..                 a block's ancestors and its store
 --     commit-..              what follows the store
 --     process-..               a block
@@ -11,28 +11,28 @@
 --     settles-unique           the outcome is determined
 -- Assumes nothing.
 use mathlib.Core.Path.{◌≡◌, refl, sym, ◌∙◌, ap}
-use Prim.Native.Nat.{ℕ, ◌+◌, ◌-◌, ◌*◌, ◌<◌, ◌≤◌}
+use Prim.Native.Nat.{ℕ, ◌+◌, ◌*◌, ◌<◌, ◌≤◌}
 use native.Mathlib.Omega.{arith}
-use mathlib.Core.Bool.{Bool, true, false, not, cond}
+use mathlib.Core.Bool.{Bool, true, false, cond}
 use mathlib.Core.List.{List, [], map, append-nil}
 use lib.Dec.{ltb, eqb}
 use lib.ListN.{length, set, length-set}
 use lib.Seq.{get_or-set_other, set_out}
-use borrow.Author.Tests.{lt-ltb, le-ltb, ltb-false, eq-eqb, ne_eqb, eqb-true, eqb-false, not-true, not-false}
+use borrow.Author.Tests.{lt-ltb, le-ltb, ltb-false, eq-eqb, ne_eqb, eqb-true, eqb-false}
 use Rattle.certificates.specs.declared.numbers.Place.{Place}
 use Rattle.certificates.specs.declared.numbers.Round.{Round}
 use Rattle.outputs.specs.Records.{Rec, enc, enc_all, sync, clean_proposer, clean_mempool, commit_size, sync_size, clean_proposer_size, clean_mempool_size}
 use Rattle.outputs.specs.Put.{Put, Wrote}
 use Rattle.outputs.proofs.Wrote.{all_none, wrote_none, wrote_one, wrote_then, wrote-more}
+use Rattle.std.specs.Prelude.{Option, Some, None, is_some}
 use Rattle.synchronizer.specs.declared.table.Slot.{Slot}
-use Rattle.synchronizer.specs.declared.ancestors.Parent.{Parent}
 use Rattle.synchronizer.specs.declared.ancestors.Ancestors.{Ancestors}
 use Rattle.synchronizer.specs.declared.commit.Walked.{Walked}
 use Rattle.synchronizer.specs.declared.commit.Chain.{Chain}
 use Rattle.synchronizer.specs.declared.settle.Work.{Work}
 use Rattle.synchronizer.specs.declared.settle.Settled.{Settled}
 use Rattle.certificates.specs.Error.{wait_parent, table_full}
-use Rattle.synchronizer.specs.Table.{slot_at, blank, place_of, stored, store_answer, cleared, genesis, parent_of, ancestors_of, ancestors_by}
+use Rattle.synchronizer.specs.Table.{slot_at, blank, place_of, stored, store_answer, cleared, genesis, parent_of, slot_in, ancestors_of, ancestors_by}
 use Rattle.synchronizer.specs.Walk.{no_commit, commit_of, chain_of}
 use Rattle.synchronizer.specs.Settle.{Settlement, answered, is_two_chain, clean_of, commit_if, commit_rec, linked_of, wait_of, asking, processed_by, processed_of, settled_of, clean_most, settle_most, RoomFor, Settles}
 use Rattle.synchronizer.specs.Settle as spec
@@ -42,30 +42,6 @@ use Rattle.synchronizer.proofs.TableLaws.{stored-length, cleared-length}
 use Rattle.synchronizer.proofs.WalkLaws.{below, below-some, InTable, parent_in, commit-size, commit-chain, commit-genesis, commit-never-waits}
 
 -- ---- the ways out of the functions on values
-
-module _ (low high : ℕ) where
-  pub next-above : low < high → eqb (high - low) 1 ≡ eqb (low + 1) high
-  next-above h =
-      by_cases (eqb (high - low) 1)
-      (λ e. let l : high - low ≡ 1 = eqb-true _ _ e in e ∙ sym (eq-eqb (low + 1) high (omega arith)))
-      (λ e. e ∙ sym (ne_eqb (low + 1) high (λ k. eqb-false (high - low) 1 e (omega arith))))
-
-  pub next-not : high ≤ low → false ≡ eqb (low + 1) high
-  next-not h = sym (ne_eqb (low + 1) high (λ k. omega arith))
-
-pub two-chain : (a : Ancestors) {t : Bool} → t ≡ eqb (a.b0.round.0 + 1) a.b1.round.0 → t ≡ is_two_chain a.b0 a.b1
-unfolding is_two_chain
-two-chain a e = e
-
-module _ (a : Ancestors) where
-  pub commits-b0 : {t : Bool} → a.answer ≡ 0 → t ≡ is_two_chain a.b0 a.b1 → t ≡ true → a.b0 ≡ to_commit a
-  commits-b0 z e y = rw (z, ← e, y)
-
-  pub commits-other : {t : Bool} {g : Slot} → a.answer ≡ 0 → t ≡ is_two_chain a.b0 a.b1 → t ≡ false → g ≡ genesis → g ≡ to_commit a
-  commits-other z e n h = rw (z, ← e, n) h
-
-  pub commits-none : {g : Slot} → (a.answer ≡ 0 → ⊥) → g ≡ genesis → g ≡ to_commit a
-  commits-none n h = rw (ne_eqb _ _ n) h
 
 module _ (w : Work) (a : Ancestors) {before between : List ℕ} {mid : ℕ} {t : Bool} (e : t ≡ is_two_chain a.b0 a.b1)
     (p : Put before w.at clean_proposer_size (enc (clean_proposer a.b0.digest a.b1.digest w.block.digest)) between mid) where
@@ -85,19 +61,6 @@ module _ (w : Work) (a : Ancestors) (c : Walked) where
 
   pub head-none : (before : List ℕ) → (a.answer ≡ 0 → ⊥) → Heads w a c before (record { left = c.blocks; at = w.at; block = a.b0 }) before
   head-none before n = record { left = refl; block = refl; bytes = rw (ne_eqb _ _ n) (wrote_none clean_most before w.at) }
-
-module _ (w : Work) (a : Ancestors) (c : Walked) (t : Chain) (at : ℕ) (e : at ≡ t.at + commit_size * t.left) where
-  pub by-refusal : (a.answer ≡ 0 → ⊥) → ◌≡◌ {A = Settled} (record { answer = a.answer; last = w.last; at = at }) (settled_by w a c t)
-  by-refusal n = rw (e, ne_eqb _ _ n)
-
-  pub by-commit : a.answer ≡ 0 → 0 < c.blocks → ◌≡◌ {A = Settled} (record { answer = c.answer; last = t.block.round; at = at }) (settled_by w a c t)
-  by-commit z h = rw (e, z, lt-ltb _ _ h)
-
-  pub by-none : a.answer ≡ 0 → c.blocks ≤ 0 → ◌≡◌ {A = Settled} (record { answer = c.answer; last = w.last; at = at }) (settled_by w a c t)
-  by-none z h = rw (e, z, le-ltb _ _ h)
-
-pub asks-room : (s : Settled) {k : ℕ} → RoomToAsk s k → s.answer ≡ wait_parent → s.at + sync_size ≤ k
-asks-room s h z = h z
 
 module _ (w : Work) (s : Settled) where
   pub asks-sync : {before after : List ℕ} {next : ℕ} → s.answer ≡ wait_parent → Put before s.at sync_size (enc (sync w.block.parent w.block.digest w.author.0)) after next
@@ -123,25 +86,24 @@ other-slot t k b b0 b1 p q e =
     below-some (set t k b) q.place b0.round.0 (rw (length-set t k b) q.within) (rw is (omega arith)))
 
 -- the ancestors that were found
-found-both : (p1 p0 : Parent) → (ancestors_by p1 p0).answer ≡ 0 → (p1.found ≡ true) × (p0.found ≡ true)
-found-both p1 p0 =
-    by_cases p1.found
-    (λ e. by_cases p0.found (λ f. rw (e, f) (λ _. (refl, refl))) (λ f. rw (e, f) (λ z. absurd (omega arith))))
-    (λ e. rw e (λ z. absurd (omega arith)))
+found-both : (p1 p0 : Option Slot) → (ancestors_by p1 p0).answer ≡ 0 → (is_some p1 ≡ true) × (is_some p0 ≡ true)
+found-both None p0 = λ z. absurd (omega arith)
+found-both (Some b1) None = λ z. absurd (omega arith)
+found-both (Some b1) (Some b0) = λ z. (refl, refl)
 
 pub commits-fit : (t : List Slot) (b : Slot) (last : ℕ) → (ancestors_of t b).answer ≡ 0
     → length (commit_if (stored t b) (ancestors_of t b).b0 (ancestors_of t b).b1 last).blocks ≤ length t
 unfolding ancestors_of commit_if stored is_two_chain
 commits-fit t b last e =
-    let f = found-both (parent_of t b) (parent_of t (parent_of t b).slot) e in
-    by_cases (eqb ((parent_of t (parent_of t b).slot).slot.round.0 + 1) (parent_of t b).slot.round.0)
-    (λ s. let next : (parent_of t (parent_of t b).slot).slot.round.0 + 1 ≡ (parent_of t b).slot.round.0 = eqb-true _ _ s in
-    rw s (commit-size (set t (place_of t b) b) (parent_of t (parent_of t b).slot).slot last (length t)
+    let f = found-both (parent_of t b) (parent_of t (slot_in (parent_of t b))) e in
+    by_cases (eqb ((slot_in (parent_of t (slot_in (parent_of t b)))).round.0 + 1) (slot_in (parent_of t b)).round.0)
+    (λ s. let next : (slot_in (parent_of t (slot_in (parent_of t b)))).round.0 + 1 ≡ (slot_in (parent_of t b)).round.0 = eqb-true _ _ s in
+    rw s (commit-size (set t (place_of t b) b) (slot_in (parent_of t (slot_in (parent_of t b)))) last (length t)
     (λ l. omega (
       arith,
       length-set t (place_of t b) b,
-      other-slot t (place_of t b) b (parent_of t (parent_of t b).slot).slot (parent_of t b).slot
-          (parent_in t (parent_of t b).slot f.1 (omega arith)) (parent_in t b f.0 (omega arith)) next,
+      other-slot t (place_of t b) b (slot_in (parent_of t (slot_in (parent_of t b)))) (slot_in (parent_of t b))
+          (parent_in t (slot_in (parent_of t b)) f.1 (omega arith)) (parent_in t b f.0 (omega arith)) next,
     ))))
     (λ s. rw s (omega arith))
 
@@ -163,14 +125,10 @@ round-of true x y = refl
 round-of false x y = refl
 
 module _ (t : List Slot) (w : Work) (a : Ancestors) {before mid : List ℕ} (room : CommitsFit t w a (length before)) (same : length mid ≡ length before)
-    {b : Slot} {l : Round} {c : Walked} {ch : Chain} (e₁ : b ≡ to_commit a) (e₂ : l ≡ w.last) (e₃ : c ≡ count_of (commit_of t b l.0))
+    {b : Slot} {c : Walked} {ch : Chain} (e₁ : b ≡ to_commit a) (e₂ : c ≡ count_of (commit_of t b w.last.0))
     (head : Heads w a c before ch mid) where
   counts : c ≡ count_of (commit_of t (to_commit a) w.last.0)
-  counts = rw (e₃, e₁, e₂)
-
-  -- the COMMITs have room
-  pub commit-room : ch.at + commit_size * ch.left ≤ length mid
-  commit-room = omega (arith, room.0, room.1, head.left, ap (λ (x : Walked). x.blocks) counts, head.bytes.room)
+  counts = rw (e₂, e₁)
 
   module _ {after : List ℕ} {r : Settled} (wrote : Wrote (commit_size * ch.left) (map commit_rec (chain_of ch.left t ch.block)) mid ch.at after (ch.at + commit_size * ch.left))
       (e : r ≡ settled_by w a c ch) where
@@ -207,18 +165,18 @@ module _ (t : List Slot) (w : Work) (a : Ancestors) {before mid : List ℕ} (roo
 
 -- ---- a block's ancestors and its store
 
-module _ (t : List Slot) (b : Slot) {a : Ancestors} (found : a ≡ ancestors_of t b) {s : Bool} (short : s ≡ not (eqb a.answer 0)) where
-  pub admit-short : s ≡ true → Admits t b a t
+module _ (t : List Slot) (b : Slot) {a : Ancestors} (found : a ≡ ancestors_of t b) where
+  pub admit-short : (a.answer ≡ 0 → ⊥) → Admits t b a t
   admit-short y =
-      let n : eqb a.answer 0 ≡ false = not-true _ (sym short ∙ y) in
+      let n : eqb a.answer 0 ≡ false = ne_eqb _ _ y in
       record { answer = rw (← found, n); b0 = ap (λ (x : Ancestors). x.b0) found; b1 = ap (λ (x : Ancestors). x.b1) found; slots = rw n }
 
-  pub admit-store : {n : ℕ} {t' : List Slot} {r : Ancestors} → s ≡ false → (n ≡ store_answer (place_of t b) (length t)) × (t' ≡ stored t b)
-      → r ≡ record { answer = n; b0 = a.b0; b1 = a.b1 } → Admits t b r t'
+  pub admit-store : {n : ℕ} {t' : List Slot} → a.answer ≡ 0 → (n ≡ store_answer (place_of t b) (length t)) × (t' ≡ stored t b)
+      → Admits t b (record { answer = n; b0 = a.b0; b1 = a.b1 }) t'
   unfolding stored
-  admit-store {n} {t'} go said e =
-      let z : eqb a.answer 0 ≡ true = not-false _ (sym short ∙ go) in
-      rw e (record { answer = said.0 ∙ rw (← found, z); b0 = ap (λ (x : Ancestors). x.b0) found; b1 = ap (λ (x : Ancestors). x.b1) found; slots = after })
+  admit-store {n} {t'} go said =
+      let z : eqb a.answer 0 ≡ true = eq-eqb _ _ go in
+      record { answer = said.0 ∙ rw (← found, z); b0 = ap (λ (x : Ancestors). x.b0) found; b1 = ap (λ (x : Ancestors). x.b1) found; slots = after }
     where
       -- a store that is refused changes nothing
       after : t' ≡ cond (eqb n 0) (set t (place_of t b) b) t
@@ -335,26 +293,6 @@ module _ (t : List Slot) (w : Work) {before mid : List ℕ} {s : Settled} {t' : 
           (λ e. omega (arith, q.bytes.room, waits-at (eqb-true _ _ e)))
           (λ e. omega (arith, p.bytes.room, wrote_nothing (wait-none w s.answer e) q.bytes))
 
--- ---- an event
-
-module _ (t : List Slot) (w : Work) {s : Bool} (block : s ≡ eqb w.does spec.block) where
-  pub settle-room : (k : ℕ) → s ≡ true → RoomFor w (length t) k → w.at + settle_most (length t) ≤ k
-  settle-room k y h = h (eqb-true w.does spec.block (sym block ∙ y))
-
-  pub settle-block : {r : Settled} {t' : List Slot} {before after : List ℕ} → s ≡ true → Settles (asking w (processed_of t w)) (settle_most (length t)) before w.at r t' after
-      → Settles (settled_of t w) (settle_most (length t)) before w.at r t' after
-  unfolding settled_of
-  settle-block y p = rw (← block, y) p
-
-  module _ (other : s ≡ false) {c : Bool} (clear : c ≡ eqb w.does spec.clear) {r : Settled} (e : r ≡ record { answer = 0; last = w.last; at = w.at }) (before : List ℕ) where
-    pub settle-clear : {t' : List Slot} → c ≡ true → t' ≡ cleared t → Settles (settled_of t w) (settle_most (length t)) before w.at r t' before
-    unfolding settled_of
-    settle-clear y p = rw (e, ← block, other, ← clear, y) (record { answer = refl; last = refl; slots = p; bytes = wrote_none (settle_most (length t)) before w.at })
-
-    pub settle-idle : c ≡ false → Settles (settled_of t w) (settle_most (length t)) before w.at r t before
-    unfolding settled_of
-    settle-idle n = rw (e, ← block, other, ← clear, n) (record { answer = refl; last = refl; slots = refl; bytes = wrote_none (settle_most (length t)) before w.at })
-
 -- ---- what a caller asks of a settlement
 
 module _ (t : List Slot) (w : Work) where
@@ -401,6 +339,22 @@ module _ (t : List Slot) (w : Work) where
     settled-stored z h =
         settled-block e ∙ ap (asking w) (processed-stored z h)
         ∙ asking-linked w (stored t w.block) w.block (ancestors_of t w.block).b0 (ancestors_of t w.block).b1 w.last.0
+
+-- ---- an event, as code comes by it
+
+module _ (t : List Slot) (w : Work) where
+  pub settle-block : {r : Settled} {t' : List Slot} {before after : List ℕ} → w.does ≡ spec.block
+      → Settles (asking w (processed_of t w)) (settle_most (length t)) before w.at r t' after → Settles (settled_of t w) (settle_most (length t)) before w.at r t' after
+  settle-block y p = rw (settled-block t w y) p
+
+  module _ (before : List ℕ) where
+    pub settle-clear : {t' : List Slot} → w.does ≡ spec.clear → t' ≡ cleared t
+        → Settles (settled_of t w) (settle_most (length t)) before w.at (record { answer = 0; last = w.last; at = w.at }) t' before
+    settle-clear y p = rw (settled-clear t w y) (record { answer = refl; last = refl; slots = p; bytes = wrote_none (settle_most (length t)) before w.at })
+
+    pub settle-idle : (w.does ≡ spec.block → ⊥) → (w.does ≡ spec.clear → ⊥) → Settles (settled_of t w) (settle_most (length t)) before w.at (record { answer = 0; last = w.last; at = w.at }) t before
+    unfolding settled_of
+    settle-idle other n = rw (ne_eqb _ _ other, ne_eqb _ _ n) (record { answer = refl; last = refl; slots = refl; bytes = wrote_none (settle_most (length t)) before w.at })
 
 -- the table is as long as before
 linked-length : (t : List Slot) (b b0 b1 : Slot) (last : ℕ) → (linked_of t b b0 b1 last).table ≡ t

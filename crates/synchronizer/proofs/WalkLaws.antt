@@ -6,34 +6,30 @@
 --     walk-rises, commit-rising     the rounds of what is delivered rise from above the last committed one to that of the start
 --     commit-size, commit-chain, commit-genesis     the same of a commit; genesis is never committed
 --     commit-never-waits   a commit does not answer WAIT PARENT
---     meant_by, Sound, height_of    what a trail comes to, what holds of it, and a number that falls
---     count-.., sound-.., height-..     the start of a count, and one parent more
---     above-.., set-out-.., walk-..     the ways out of the functions on values
+--     on-parent-found, on-parent-absent     what a walk makes of a parent that is found, and of none
+--     Counts, counts-..    a count that has come to a block: its start, one parent more, and its ends
 -- Assumes nothing.
 use mathlib.Core.Path.{◌≡◌, refl, sym, ◌∙◌, ap}
 use Prim.Native.Nat.{ℕ, zero, suc, ◌+◌, ◌-◌, ◌<◌, ◌≤◌}
 use native.Mathlib.Numerals.{add-one}
 use native.Mathlib.Omega.{arith}
 use native.Mathlib.Nat.{not-suc-le-zero, le_of_suc-le-suc}
-use mathlib.Core.Bool.{Bool, true, false, cond}
+use mathlib.Core.Bool.{true, false, cond, true≢false}
 use mathlib.Core.List.{List, [], ◌∷◌, ◌++◌}
 use lib.Dec.{ltb}
 use lib.ListN.{length, length-append}
 use borrow.Author.Tests.{lt-ltb, le-ltb, ltb-true, ltb-false}
-use Rattle.certificates.specs.declared.numbers.Round.{Round}
 use Rattle.certificates.specs.Messages.{is_genesis}
+use Rattle.std.specs.Prelude.{Option, Some, None, is_some, Result, Ok, Err}
 use Rattle.synchronizer.specs.declared.table.Slot.{Slot}
-use Rattle.synchronizer.specs.declared.ancestors.Parent.{Parent}
-use Rattle.synchronizer.specs.declared.commit.Trail.{Trail}
+use Rattle.synchronizer.specs.declared.table.Want.TheVariants.{Digest}
 use Rattle.synchronizer.specs.declared.commit.Walked.{Walked}
 use Rattle.certificates.specs.Error.{wait_parent, ancestor_absent, round_not_below}
-use Rattle.synchronizer.specs.Table.{slot_at, lowest, want_digest, genesis, parent_of}
+use Rattle.synchronizer.specs.Table.{slot_at, lowest, genesis, parent_of, slot_in}
 use Rattle.synchronizer.specs.Walk.{Walk, refused, delivers, and_newer, on_parent, walk_from, walk_of, no_commit, committed_by, commit_of, chain_of}
-use Rattle.synchronizer.specs.Parts.{count_of, stopped, walking, set_out, walk_on}
+use Rattle.synchronizer.specs.Parts.{count_of, next_walked}
 use Rattle.synchronizer.proofs.Tests.{by_cases}
-
-never : false ≡ true → ⊥
-never g = let z : ◌≡◌ {A = ℕ} 0 1 = cc in omega arith
+use Rattle.synchronizer.proofs.TableLaws.{found-at}
 
 -- ---- slots below a round
 
@@ -99,15 +95,15 @@ pub record InTable (t : List Slot) (s : Slot) : Type 0 where
   pub within : place < length t
   pub is : s ≡ slot_at t place
 
-pub parent_in : (t : List Slot) (b : Slot) → (parent_of t b).found ≡ true → 0 < (parent_of t b).slot.round.0 → InTable t (parent_of t b).slot
+pub parent_in : (t : List Slot) (b : Slot) → is_some (parent_of t b) ≡ true → 0 < (slot_in (parent_of t b)).round.0 → InTable t (slot_in (parent_of t b))
 unfolding parent_of
 parent_in t b =
     by_cases (is_genesis b.parent b.parent_round.0)
     (λ e. rw e (λ f l. absurd (omega arith)))
-    (λ e. rw e (λ f l. record { place = lowest t (want_digest b.parent); within = ltb-true _ _ f; is = refl }))
+    (λ e. rw e (λ f l. let k = found-at t (lowest t (Digest b.parent)) f in record { place = lowest t (Digest b.parent); within = k.0; is = ap slot_in k.1 }))
 
-parent-below : (t : List Slot) (b : Slot) (r : ℕ) → (parent_of t b).found ≡ true → 0 < (parent_of t b).slot.round.0 → (parent_of t b).slot.round.0 < r
-    → below t (parent_of t b).slot.round.0 < below t r
+parent-below : (t : List Slot) (b : Slot) (r : ℕ) → is_some (parent_of t b) ≡ true → 0 < (slot_in (parent_of t b)).round.0 → (slot_in (parent_of t b)).round.0 < r
+    → below t (slot_in (parent_of t b)).round.0 < below t r
 parent-below t b r f p l =
     let i = parent_in t b f p in
     let m : (slot_at t i.place).round.0 < r = rw (← i.is) l in
@@ -115,18 +111,29 @@ parent-below t b r f p l =
 
 -- ---- one step of a walk
 
+pub on-parent-found : (b : Slot) (last : ℕ) (p : Option Slot) (w : Walk) → is_some p ≡ true
+    → on_parent b last p w
+    ≡ cond (ltb (slot_in p).round.0 b.round.0) (cond (ltb last (slot_in p).round.0) (and_newer w b) (delivers (b ∷ []))) (refused round_not_below)
+unfolding on_parent
+on-parent-found b last None w e = absurd (true≢false (sym e))
+on-parent-found b last (Some p) w e = refl
+
+pub on-parent-absent : (b : Slot) (last : ℕ) (p : Option Slot) (w : Walk) → is_some p ≡ false → on_parent b last p w ≡ refused ancestor_absent
+unfolding on_parent
+on-parent-absent b last None w e = refl
+on-parent-absent b last (Some p) w e = absurd (true≢false e)
+
 -- the rest matters only where the parent is delivered
-on-parent-same : (b : Slot) (last : ℕ) (p : Parent) (w v : Walk) → (p.found ≡ true → p.slot.round.0 < b.round.0 → last < p.slot.round.0 → w ≡ v)
+on-parent-same : (b : Slot) (last : ℕ) (p : Option Slot) (w v : Walk) → (is_some p ≡ true → (slot_in p).round.0 < b.round.0 → last < (slot_in p).round.0 → w ≡ v)
     → on_parent b last p w ≡ on_parent b last p v
 unfolding on_parent
-on-parent-same b last p w v same =
-    by_cases p.found
-    (λ e. by_cases (ltb p.slot.round.0 b.round.0)
-    (λ f. by_cases (ltb last p.slot.round.0)
-    (λ g. rw (e, f, g) (ap (λ (x : Walk). and_newer x b) (same e (ltb-true _ _ f) (ltb-true _ _ g))))
-    (λ g. rw (e, f, g)))
-    (λ f. rw (e, f)))
-    (λ e. rw e)
+on-parent-same b last None w v same = refl
+on-parent-same b last (Some p) w v same =
+    by_cases (ltb p.round.0 b.round.0)
+    (λ f. by_cases (ltb last p.round.0)
+    (λ g. rw (f, g) (ap (λ (x : Walk). and_newer x b) (same refl (ltb-true _ _ f) (ltb-true _ _ g))))
+    (λ g. rw (f, g)))
+    (λ f. rw f)
 
 -- two budgets that are both enough
 walk-budget : (n m : ℕ) (t : List Slot) (b : Slot) (last : ℕ) → below t b.round.0 < n → below t b.round.0 < m → walk_from n t b last ≡ walk_from m t b last
@@ -135,18 +142,18 @@ walk-budget zero m t b last h k = absurd (not-suc-le-zero h)
 walk-budget (suc n) zero t b last h k = absurd (not-suc-le-zero k)
 walk-budget (suc n) (suc m) t b last h k =
     ap (λ (w : Walk). cond (ltb (last + 1) b.round.0) w (delivers (b ∷ [])))
-    (on-parent-same b last (parent_of t b) (walk_from n t (parent_of t b).slot last) (walk_from m t (parent_of t b).slot last)
-    (λ f l g. let d : below t (parent_of t b).slot.round.0 < below t b.round.0 = parent-below t b b.round.0 f (omega arith) l in
-    walk-budget n m t (parent_of t b).slot last (omega arith) (omega arith)))
+    (on-parent-same b last (parent_of t b) (walk_from n t (slot_in (parent_of t b)) last) (walk_from m t (slot_in (parent_of t b)) last)
+    (λ f l g. let d : below t (slot_in (parent_of t b)).round.0 < below t b.round.0 = parent-below t b b.round.0 f (omega arith) l in
+    walk-budget n m t (slot_in (parent_of t b)) last (omega arith) (omega arith)))
 
 pub walk_step : (t : List Slot) (b : Slot) (last : ℕ)
-    → walk_of t b last ≡ cond (ltb (last + 1) b.round.0) (on_parent b last (parent_of t b) (walk_of t (parent_of t b).slot last)) (delivers (b ∷ []))
+    → walk_of t b last ≡ cond (ltb (last + 1) b.round.0) (on_parent b last (parent_of t b) (walk_of t (slot_in (parent_of t b)) last)) (delivers (b ∷ []))
 unfolding walk_of walk_from
 walk_step t b last =
     ap (λ (w : Walk). cond (ltb (last + 1) b.round.0) w (delivers (b ∷ [])))
-    (on-parent-same b last (parent_of t b) (walk_from (length t) t (parent_of t b).slot last) (walk_from (suc (length t)) t (parent_of t b).slot last)
-    (λ f l g. let d : below t (parent_of t b).slot.round.0 < below t b.round.0 = parent-below t b b.round.0 f (omega arith) l in
-    walk-budget (length t) (suc (length t)) t (parent_of t b).slot last (omega (arith, below-le t b.round.0)) (omega (arith, below-le t b.round.0))))
+    (on-parent-same b last (parent_of t b) (walk_from (length t) t (slot_in (parent_of t b)) last) (walk_from (suc (length t)) t (slot_in (parent_of t b)) last)
+    (λ f l g. let d : below t (slot_in (parent_of t b)).round.0 < below t b.round.0 = parent-below t b b.round.0 f (omega arith) l in
+    walk-budget (length t) (suc (length t)) t (slot_in (parent_of t b)) last (omega (arith, below-le t b.round.0)) (omega (arith, below-le t b.round.0))))
 
 -- ---- how many blocks a walk delivers
 
@@ -159,26 +166,25 @@ unfolding size_of
 size-newer (refused n) b = omega arith
 size-newer (delivers bs) b = omega (arith, length-append bs (b ∷ []))
 
-size-on-parent : (b : Slot) (last : ℕ) (p : Parent) (w : Walk) (k : ℕ) → (p.found ≡ true → p.slot.round.0 < b.round.0 → last < p.slot.round.0 → size_of w ≤ k)
-    → size_of (on_parent b last p w) ≤ suc k
+size-on-parent : (b : Slot) (last : ℕ) (p : Option Slot) (w : Walk) (k : ℕ)
+    → (is_some p ≡ true → (slot_in p).round.0 < b.round.0 → last < (slot_in p).round.0 → size_of w ≤ k) → size_of (on_parent b last p w) ≤ suc k
 unfolding on_parent size_of
-size-on-parent b last p w k h =
-    by_cases p.found
-    (λ e. by_cases (ltb p.slot.round.0 b.round.0)
-    (λ f. by_cases (ltb last p.slot.round.0)
-    (λ g. rw (e, f, g) (omega (arith, size-newer w b, h e (ltb-true _ _ f) (ltb-true _ _ g))))
-    (λ g. rw (e, f, g) (omega arith)))
-    (λ f. rw (e, f) (omega arith)))
-    (λ e. rw e (omega arith))
+size-on-parent b last None w k h = omega arith
+size-on-parent b last (Some p) w k h =
+    by_cases (ltb p.round.0 b.round.0)
+    (λ f. by_cases (ltb last p.round.0)
+    (λ g. rw (f, g) (omega (arith, size-newer w b, h refl (ltb-true _ _ f) (ltb-true _ _ g))))
+    (λ g. rw (f, g) (omega arith)))
+    (λ f. rw f (omega arith))
 
 pub walk-size : (n : ℕ) (t : List Slot) (b : Slot) (last : ℕ) → size_of (walk_from n t b last) ≤ suc (below t b.round.0)
 unfolding walk_from size_of
 walk-size zero t b last = omega arith
 walk-size (suc n) t b last =
     by_cases (ltb (last + 1) b.round.0)
-    (λ e. rw e (size-on-parent b last (parent_of t b) (walk_from n t (parent_of t b).slot last) (below t b.round.0)
-    (λ f l g. let d : below t (parent_of t b).slot.round.0 < below t b.round.0 = parent-below t b b.round.0 f (omega arith) l in
-    omega (arith, walk-size n t (parent_of t b).slot last))))
+    (λ e. rw e (size-on-parent b last (parent_of t b) (walk_from n t (slot_in (parent_of t b)) last) (below t b.round.0)
+    (λ f l g. let d : below t (slot_in (parent_of t b)).round.0 < below t b.round.0 = parent-below t b b.round.0 f (omega arith) l in
+    omega (arith, walk-size n t (slot_in (parent_of t b)) last))))
     (λ e. rw e (omega arith))
 
 -- ---- which they are
@@ -191,30 +197,28 @@ chain-one : (t : List Slot) (b : Slot) → IsChain t b (delivers (b ∷ []))
 unfolding IsChain chain_of
 chain-one t b = (refl, omega arith)
 
-chain-newer : (t : List Slot) (b : Slot) (w : Walk) → IsChain t (parent_of t b).slot w → IsChain t b (and_newer w b)
+chain-newer : (t : List Slot) (b : Slot) (w : Walk) → IsChain t (slot_in (parent_of t b)) w → IsChain t b (and_newer w b)
 unfolding IsChain chain_of
 chain-newer t b (refused n) h = tt
 chain-newer t b (delivers bs) h =
     let l : length (bs ++ b ∷ []) ≡ suc (length bs) = length-append bs (b ∷ []) ∙ add-one (length bs) in
     (rw l (ap (λ (x : List Slot). x ++ b ∷ []) h.0), rw l (omega arith))
 
-chain-on-parent : (t : List Slot) (b : Slot) (last : ℕ) (w : Walk) → IsChain t (parent_of t b).slot w → IsChain t b (on_parent b last (parent_of t b) w)
+chain-on-parent : (t : List Slot) (b : Slot) (last : ℕ) (p : Option Slot) (w : Walk) → IsChain t b (and_newer w b) → IsChain t b (on_parent b last p w)
 unfolding on_parent IsChain
-chain-on-parent t b last w h =
-    by_cases (parent_of t b).found
-    (λ e. by_cases (ltb (parent_of t b).slot.round.0 b.round.0)
-    (λ f. by_cases (ltb last (parent_of t b).slot.round.0)
-    (λ g. rw (e, f, g) (chain-newer t b w h))
-    (λ g. rw (e, f, g) (chain-one t b)))
-    (λ f. rw (e, f) tt))
-    (λ e. rw e tt)
+chain-on-parent t b last None w h = tt
+chain-on-parent t b last (Some p) w h =
+    by_cases (ltb p.round.0 b.round.0)
+    (λ f. by_cases (ltb last p.round.0) (λ g. rw (f, g) h) (λ g. rw (f, g) (chain-one t b)))
+    (λ f. rw f tt)
 
 pub walk-chain : (n : ℕ) (t : List Slot) (b : Slot) (last : ℕ) → IsChain t b (walk_from n t b last)
 unfolding walk_from IsChain
 walk-chain zero t b last = tt
 walk-chain (suc n) t b last =
     by_cases (ltb (last + 1) b.round.0)
-    (λ e. rw e (chain-on-parent t b last (walk_from n t (parent_of t b).slot last) (walk-chain n t (parent_of t b).slot last)))
+    (λ e. let w : Walk = walk_from n t (slot_in (parent_of t b)) last in
+    rw e (chain-on-parent t b last (parent_of t b) w (chain-newer t b w (walk-chain n t (slot_in (parent_of t b)) last))))
     (λ e. rw e (chain-one t b))
 
 -- ---- their rounds rise from above the last committed one to that of the start
@@ -241,23 +245,23 @@ unfolding Rises
 rises-newer last mid b (refused n) p h = tt
 rises-newer last mid b (delivers bs) p h = rising-more last mid bs b p h
 
-rises-on-parent : (b : Slot) (last : ℕ) (p : Parent) (w : Walk) → last < b.round.0 → (last < p.slot.round.0 → Rises last p.slot.round.0 w) → Rises last b.round.0 (on_parent b last p w)
+rises-on-parent : (b : Slot) (last : ℕ) (p : Option Slot) (w : Walk) → last < b.round.0 → (last < (slot_in p).round.0 → Rises last (slot_in p).round.0 w)
+    → Rises last b.round.0 (on_parent b last p w)
 unfolding on_parent Rises
-rises-on-parent b last p w h k =
-    by_cases p.found
-    (λ e. by_cases (ltb p.slot.round.0 b.round.0)
-    (λ f. by_cases (ltb last p.slot.round.0)
-    (λ g. rw (e, f, g) (rises-newer last p.slot.round.0 b w (k (ltb-true _ _ g)) (ltb-true _ _ f)))
-    (λ g. rw (e, f, g) (rises-one last b h)))
-    (λ f. rw (e, f) tt))
-    (λ e. rw e tt)
+rises-on-parent b last None w h k = tt
+rises-on-parent b last (Some p) w h k =
+    by_cases (ltb p.round.0 b.round.0)
+    (λ f. by_cases (ltb last p.round.0)
+    (λ g. rw (f, g) (rises-newer last p.round.0 b w (k (ltb-true _ _ g)) (ltb-true _ _ f)))
+    (λ g. rw (f, g) (rises-one last b h)))
+    (λ f. rw f tt)
 
 pub walk-rises : (n : ℕ) (t : List Slot) (b : Slot) (last : ℕ) → last < b.round.0 → Rises last b.round.0 (walk_from n t b last)
 unfolding walk_from Rises
 walk-rises zero t b last h = tt
 walk-rises (suc n) t b last h =
     by_cases (ltb (last + 1) b.round.0)
-    (λ e. rw e (rises-on-parent b last (parent_of t b) (walk_from n t (parent_of t b).slot last) h (λ k. walk-rises n t (parent_of t b).slot last k)))
+    (λ e. rw e (rises-on-parent b last (parent_of t b) (walk_from n t (slot_in (parent_of t b)) last) h (λ k. walk-rises n t (slot_in (parent_of t b)) last k)))
     (λ e. rw e (rises-one last b h))
 
 -- ---- a commit
@@ -313,22 +317,21 @@ newer-answer : (b : Slot) (last : ℕ) (w : Walk) (c : Slot) → (committed_by b
 newer-answer b last (refused n) c = refl
 newer-answer b last (delivers bs) c = refl
 
-parent-never-waits : (b c : Slot) (last : ℕ) (p : Parent) (w : Walk) → ((committed_by b last w).answer ≡ wait_parent → ⊥)
+parent-never-waits : (b c : Slot) (last : ℕ) (p : Option Slot) (w : Walk) → ((committed_by b last w).answer ≡ wait_parent → ⊥)
     → (committed_by b last (on_parent c last p w)).answer ≡ wait_parent → ⊥
 unfolding on_parent
-parent-never-waits b c last p w h =
-    by_cases p.found
-    (λ e. by_cases (ltb p.slot.round.0 c.round.0)
-    (λ f. by_cases (ltb last p.slot.round.0) (λ g. rw (e, f, g, newer-answer) h) (λ g. rw (e, f, g) (λ z. omega arith)))
-    (λ f. rw (e, f) (λ z. omega arith)))
-    (λ e. rw e (λ z. omega arith))
+parent-never-waits b c last None w h = λ z. omega arith
+parent-never-waits b c last (Some p) w h =
+    by_cases (ltb p.round.0 c.round.0)
+    (λ f. by_cases (ltb last p.round.0) (λ g. rw (f, g, newer-answer) h) (λ g. rw (f, g) (λ z. omega arith)))
+    (λ f. rw f (λ z. omega arith))
 
 walk-never-waits : (n : ℕ) (t : List Slot) (b c : Slot) (last : ℕ) → (committed_by b last (walk_from n t c last)).answer ≡ wait_parent → ⊥
 unfolding walk_from
 walk-never-waits zero t b c last = λ z. omega arith
 walk-never-waits (suc n) t b c last =
     by_cases (ltb (last + 1) c.round.0)
-    (λ e. rw e (parent-never-waits b c last (parent_of t c) (walk_from n t (parent_of t c).slot last) (walk-never-waits n t b (parent_of t c).slot last)))
+    (λ e. rw e (parent-never-waits b c last (parent_of t c) (walk_from n t (slot_in (parent_of t c)) last) (walk-never-waits n t b (slot_in (parent_of t c)) last)))
     (λ e. rw e (λ z. omega arith))
 
 pub commit-never-waits : (t : List Slot) (b : Slot) (last : ℕ) → (commit_of t b last).answer ≡ wait_parent → ⊥
@@ -337,149 +340,88 @@ commit-never-waits t b last = by_cases (ltb last b.round.0) (λ e. rw e (walk-ne
 
 -- ---- counting a walk
 
--- what a trail comes to: the walk from its block, whose first is counted already
+-- what a walk comes to that goes on from a block, n blocks with it counted already
 abbrev add_walk : ℕ → Walk → Walked
 add_walk n (refused k) = record { answer = k; blocks = 0 }
 add_walk n (delivers bs) = record { answer = 0; blocks = n + length bs - 1 }
-
-unfoldable pub meant_by : List Slot → Trail → Walked
-meant_by t u = cond u.going (add_walk u.blocks (walk_of t u.block u.last.0)) (record { answer = u.answer; blocks = u.blocks })
-
--- one that goes on is above the last committed round plus 1, and has counted no slot below its block
-pub record Sound (t : List Slot) (u : Trail) : Type 0 where
-  pub high : u.last.0 + 1 < u.block.round.0
-  pub few : u.blocks + below t u.block.round.0 ≤ suc (length t)
-
--- a number that falls
-unfoldable pub height_of : Trail → ℕ
-height_of u = cond u.going (suc u.block.round.0) 0
-
-meant-going : (t : List Slot) (u : Trail) → u.going ≡ true → meant_by t u ≡ add_walk u.blocks (walk_of t u.block u.last.0)
-unfolding meant_by
-meant-going t u e = rw e
-
-pub meant-over : (t : List Slot) (u : Trail) {r : Walked} → u.going ≡ false → (r.answer ≡ u.answer) × (r.blocks ≡ u.blocks) → r ≡ meant_by t u
-unfolding meant_by
-meant-over t u {r} e f = rw e (λ i. record { answer = f.0 i; blocks = f.1 i })
-
--- a walk from b, n blocks with b itself, goes on or is over
-meant-walking : (t : List Slot) (last : Round) (b : Slot) (n : ℕ) → meant_by t (walking last b n) ≡ add_walk n (walk_of t b last.0)
-unfolding meant_by
-meant-walking t last b n =
-    by_cases (ltb (last.0 + 1) b.round.0)
-    (λ e. rw e)
-    (λ e. let k : n ≡ n + 1 - 1 = omega arith in rw (walk_step t b last.0, e) (λ i. record { answer = 0; blocks = k i }))
 
 add-committed : (b : Slot) (last : ℕ) (w : Walk) → add_walk 1 w ≡ count_of (committed_by b last w)
 add-committed b last (refused n) = refl
 add-committed b last (delivers bs) = let k : 1 + length bs - 1 ≡ length bs = omega arith in λ i. record { answer = 0; blocks = k i }
 
-pub count-start : (t : List Slot) (b : Slot) (last : Round) {u : Trail} → u ≡ set_out b last → meant_by t u ≡ count_of (commit_of t b last.0)
-unfolding set_out commit_of meant_by
-count-start t b last s =
-    by_cases (ltb last.0 b.round.0)
-    (λ e. rw (s, e) (meant-walking t last b 1 ∙ add-committed b last.0 (walk_of t b last.0)))
-    (λ e. rw (s, e))
-
-add-newer : (n : ℕ) (w : Walk) (b : Slot) → add_walk (n + 1) w ≡ add_walk n (and_newer w b)
+add-newer : (n : ℕ) (w : Walk) (b : Slot) → add_walk n (and_newer w b) ≡ add_walk (n + 1) w
 add-newer n (refused k) b = refl
 add-newer n (delivers bs) b =
-    let k : n + 1 + length bs - 1 ≡ n + length (bs ++ b ∷ []) - 1 = omega (arith, length-append bs (b ∷ [])) in
+    let k : n + length (bs ++ b ∷ []) - 1 ≡ n + 1 + length bs - 1 = omega (arith, length-append bs (b ∷ [])) in
     λ i. record { answer = 0; blocks = k i }
 
-pub count-step : (t : List Slot) (u u' : Trail) (p : Parent) → u.going ≡ true → Sound t u → p ≡ parent_of t u.block → u' ≡ walk_on u p → meant_by t u' ≡ meant_by t u
-unfolding walk_on on_parent meant_by
-count-step t u u' p g h e f =
-    rw (f, meant-going t u g, walk_step t u.block u.last.0, lt-ltb _ _ h.high, ← e)
-    (by_cases p.found
-    (λ a. by_cases (ltb p.slot.round.0 u.block.round.0)
-    (λ c. by_cases (ltb u.last.0 p.slot.round.0)
-    (λ d. rw (a, c, d) (meant-walking t u.last p.slot (u.blocks + 1) ∙ add-newer u.blocks (walk_of t p.slot u.last.0) u.block))
-    (λ d. let k : u.blocks ≡ u.blocks + 1 - 1 = omega arith in rw (a, c, d) (λ i. record { answer = 0; blocks = k i })))
-    (λ c. rw (a, c)))
-    (λ a. rw a))
+add-last : (n : ℕ) (b : Slot) → add_walk n (delivers (b ∷ [])) ≡ record { answer = 0; blocks = n }
+add-last n b = let k : n + 1 - 1 ≡ n = omega arith in λ i. record { answer = 0; blocks = k i }
 
-sound-walking : (t : List Slot) (last : Round) (b : Slot) (n : ℕ) → n + below t b.round.0 ≤ suc (length t) → (walking last b n).going ≡ true → Sound t (walking last b n)
-sound-walking t last b n h g = record { high = ltb-true _ _ g; few = h }
+-- the walk from a block, by where it goes on
+abbrev by_next : Result (Option Slot) ℕ → Slot → Walk → Walk
+by_next (Err k) b w = refused k
+by_next (Ok None) b w = delivers (b ∷ [])
+by_next (Ok (Some p)) b w = and_newer w b
 
-pub sound-start : (t : List Slot) (b : Slot) (last : Round) {u : Trail} → u ≡ set_out b last → u.going ≡ true → Sound t u
-unfolding set_out
-sound-start t b last s =
-    by_cases (ltb last.0 b.round.0)
-    (λ e. rw (s, e) (sound-walking t last b 1 (omega (arith, below-le t b.round.0))))
-    (λ e. rw (s, e) (λ g. absurd (never g)))
+on-parent-next : (b : Slot) (last : ℕ) (p : Option Slot) (w : Walk) → on_parent b last p w ≡ by_next (next_walked b.round.0 last p) b w
+unfolding on_parent
+on-parent-next b last None w = refl
+on-parent-next b last (Some p) w =
+    by_cases (ltb p.round.0 b.round.0)
+    (λ f. by_cases (ltb last p.round.0) (λ g. rw (f, g)) (λ g. rw (f, g)))
+    (λ f. rw f)
 
-pub sound-step : (t : List Slot) (u u' : Trail) (p : Parent) → Sound t u → p ≡ parent_of t u.block → u' ≡ walk_on u p → u'.going ≡ true → Sound t u'
-unfolding walk_on
-sound-step t u u' p h e f =
-    rw f
-    (by_cases p.found
-    (λ a. by_cases (ltb p.slot.round.0 u.block.round.0)
-    (λ c. by_cases (ltb u.last.0 p.slot.round.0)
-    (λ d. let q : (parent_of t u.block).found ≡ true = rw (← e) a in
-    let l : (parent_of t u.block).slot.round.0 < u.block.round.0 = rw (← e) (ltb-true _ _ c) in
-    let m : u.last.0 < p.slot.round.0 = ltb-true _ _ d in
-    let z : 0 < (parent_of t u.block).slot.round.0 = rw (← e) (omega arith) in
-    let k : below t p.slot.round.0 < below t u.block.round.0 = rw e (parent-below t u.block u.block.round.0 q z l) in
-    rw (a, c, d) (sound-walking t u.last p.slot (u.blocks + 1) (omega (arith, h.few))))
-    (λ d. rw (a, c, d) (λ g. absurd (never g))))
-    (λ c. rw (a, c) (λ g. absurd (never g))))
-    (λ a. rw a (λ g. absurd (never g))))
+-- it goes on to a parent that is found, of a round between
+next-some : (child last : ℕ) (p : Option Slot) (q : Slot) → next_walked child last p ≡ Ok (Some q) → (p ≡ Some q) × (q.round.0 < child) × (last < q.round.0)
+next-some child last None q = λ e. absurd (let z : ◌≡◌ {A = ℕ} 0 1 = cc in omega arith)
+next-some child last (Some p) q =
+    by_cases (ltb p.round.0 child)
+    (λ f. by_cases (ltb last p.round.0)
+    (λ g. rw (f, g) (λ e. let s : p ≡ q = cc in (ap Some s, rw s at (ltb-true _ _ f), rw s at (ltb-true _ _ g))))
+    (λ g. rw (f, g) (λ e. absurd (let z : ◌≡◌ {A = ℕ} 0 1 = cc in omega arith))))
+    (λ f. rw f (λ e. absurd (let z : ◌≡◌ {A = ℕ} 0 1 = cc in omega arith)))
 
-height-walking : (last : Round) (b : Slot) (n : ℕ) → height_of (walking last b n) ≤ suc b.round.0
-unfolding height_of
-height-walking last b n = by_cases (ltb (last.0 + 1) b.round.0) (λ e. rw e (omega arith)) (λ e. rw e (omega arith))
+-- a count that has come to the block b, n blocks with it: it has counted no slot below b
+pub record Counts (t : List Slot) (b0 : Slot) (last : ℕ) (b : Slot) (n : ℕ) : Type 0 where
+  pub meant : add_walk n (walk_of t b last) ≡ count_of (commit_of t b0 last)
+  pub few : n + below t b.round.0 ≤ suc (length t)
 
-pub height-step : (u u' : Trail) (p : Parent) → u.going ≡ true → u' ≡ walk_on u p → height_of u' < height_of u
-unfolding walk_on height_of
-height-step u u' p g f =
-    rw (f, g)
-    (by_cases p.found
-    (λ a. by_cases (ltb p.slot.round.0 u.block.round.0)
-    (λ c. by_cases (ltb u.last.0 p.slot.round.0)
-    (λ d. rw (a, c, d) (omega (arith, height-walking u.last p.slot (u.blocks + 1), ltb-true p.slot.round.0 u.block.round.0 c)))
-    (λ d. rw (a, c, d) (omega arith)))
-    (λ c. rw (a, c) (omega arith)))
-    (λ a. rw a (omega arith)))
+module _ (t : List Slot) (b0 : Slot) (last : ℕ) where
+  pub counts-none : b0.round.0 ≤ last → ◌≡◌ {A = Walked} (record { answer = 0; blocks = 0 }) (count_of (commit_of t b0 last))
+  unfolding commit_of
+  counts-none h = rw (le-ltb _ _ h)
 
--- ---- the ways out of the functions on values
+  pub counts-start : last < b0.round.0 → Counts t b0 last b0 1
+  unfolding commit_of
+  counts-start h = record { meant = rw (lt-ltb _ _ h) (add-committed b0 last (walk_of t b0 last)); few = omega (arith, below-le t b0.round.0) }
 
-module _ (round last : ℕ) where
-  pub above-far : last < round → ltb 1 (round - last) ≡ ltb (last + 1) round
-  above-far h =
-      by_cases (ltb 1 (round - last))
-      (λ e. let l : 1 < round - last = ltb-true _ _ e in e ∙ sym (lt-ltb (last + 1) round (omega arith)))
-      (λ e. let l : round - last ≤ 1 = ltb-false _ _ e in e ∙ sym (le-ltb (last + 1) round (omega arith)))
+  module _ (b : Slot) (n : ℕ) (k : Counts t b0 last b n) where
+    pub counts-near : b.round.0 ≤ last + 1 → ◌≡◌ {A = Walked} (record { answer = 0; blocks = n }) (count_of (commit_of t b0 last))
+    counts-near h =
+        let one : walk_of t b last ≡ delivers (b ∷ []) = rw (walk_step t b last, le-ltb _ _ h) in
+        sym (add-last n b) ∙ ap (add_walk n) (sym one) ∙ k.meant
 
-  pub above-not : round ≤ last → false ≡ ltb (last + 1) round
-  above-not h = sym (le-ltb (last + 1) round (omega arith))
+    module _ (r : Result (Option Slot) ℕ) (h : last + 1 < b.round.0) (e : r ≡ next_walked b.round.0 last (parent_of t b)) where
+      goes : walk_of t b last ≡ by_next r b (walk_of t (slot_in (parent_of t b)) last)
+      goes = rw (walk_step t b last, lt-ltb _ _ h, on-parent-next, e)
 
-module _ (b : Slot) (last : Round) where
-  pub set-out-above : {g : Bool} → last.0 < b.round.0 → g ≡ ltb (last.0 + 1) b.round.0
-      → ◌≡◌ {A = Trail} (record { going = g; answer = 0; blocks = 1; last = last; block = b }) (set_out b last)
-  unfolding set_out
-  set-out-above h e = rw (e, lt-ltb _ _ h)
+      pub counts-refused : (a : ℕ) → r ≡ Err a → ◌≡◌ {A = Walked} (record { answer = a; blocks = 0 }) (count_of (commit_of t b0 last))
+      counts-refused a is = sym (ap (add_walk n) (rw is at goes)) ∙ k.meant
 
-  pub set-out-not : b.round.0 ≤ last.0 → ◌≡◌ {A = Trail} (stopped last b 0 0) (set_out b last)
-  unfolding set_out
-  set-out-not h = rw (le-ltb _ _ h)
+      pub counts-ends : r ≡ Ok None → ◌≡◌ {A = Walked} (record { answer = 0; blocks = n }) (count_of (commit_of t b0 last))
+      counts-ends is = sym (add-last n b) ∙ sym (ap (add_walk n) (rw is at goes)) ∙ k.meant
 
-module _ (u : Trail) (p : Parent) where
-  pub walk-absent : {r : Trail} → p.found ≡ false → r ≡ stopped u.last u.block ancestor_absent 0 → r ≡ walk_on u p
-  unfolding walk_on
-  walk-absent n e = rw n e
+      module _ (p : Slot) (is : r ≡ Ok (Some p)) where
+        parent : (parent_of t b ≡ Some p) × (p.round.0 < b.round.0) × (last < p.round.0)
+        parent = next-some b.round.0 last (parent_of t b) p (sym e ∙ is)
 
-  module _ (y : p.found ≡ true) where
-    pub walk-not-below : {r : Trail} → u.block.round.0 ≤ p.slot.round.0 → r ≡ stopped u.last u.block round_not_below 0 → r ≡ walk_on u p
-    unfolding walk_on
-    walk-not-below h e = rw (y, le-ltb _ _ h) e
+        pub counts-falls : p.round.0 < b.round.0
+        counts-falls = parent.1
 
-    module _ (h : p.slot.round.0 < u.block.round.0) where
-      pub walk-committed : {r : Trail} → p.slot.round.0 ≤ u.last.0 → r ≡ stopped u.last u.block 0 u.blocks → r ≡ walk_on u p
-      unfolding walk_on
-      walk-committed l e = rw (y, lt-ltb _ _ h, le-ltb _ _ l) e
-
-      pub walk-delivered : {g : Bool} → u.last.0 < p.slot.round.0 → g ≡ ltb (u.last.0 + 1) p.slot.round.0
-          → ◌≡◌ {A = Trail} (record { going = g; answer = 0; blocks = u.blocks + 1; last = u.last; block = p.slot }) (walk_on u p)
-      unfolding walk_on
-      walk-delivered l e = rw (e, y, lt-ltb _ _ h, lt-ltb _ _ l)
+        pub counts-more : Counts t b0 last p (n + 1)
+        counts-more =
+            let w : walk_of t b last ≡ and_newer (walk_of t p last) b = rw (is, parent.0) at goes in
+            let f : is_some (parent_of t b) ≡ true = rw parent.0 refl in
+            let l : below t p.round.0 < below t b.round.0 = rw parent.0 at (parent-below t b b.round.0 f) (omega (arith, parent.2)) parent.1 in
+            record { meant = sym (add-newer n (walk_of t p last) b) ∙ sym (ap (add_walk n) w) ∙ k.meant; few = omega (arith, k.few) }

@@ -1,8 +1,5 @@
 -- What the functions on values answer: the steps that code takes to the definitions of `Table`, `Walk` and `Settle`. No law of the meaning cites this file.
---     want_parent b, parent_by b s   what is looked for to find the parent of b, and the parent, from the slot s that was found
---     placed found free n            a block's place, from the place of its digest and the lowest free one
---     stopped, walking               a trail that is over; one with a block more, which goes on where that is above last committed + 1
---     set_out b last, walk_on u p    the start of a trail, and a trail after one parent more
+--     next_walked child last p       what a walk goes on to from a block of the round `child` whose parent is p
 --     count_of c                     the number of blocks that a commit delivers
 --     Admits t b r t'                a block's ancestors and its store
 --     to_commit a                    the block that is committed
@@ -12,16 +9,11 @@
 --     settled_by w a c t             how a block is settled, from its count and the chain of its COMMITs
 --     RoomToAsk s k                  k bytes have room for SYNC where the settlement s waits for a parent
 --     Asks w s before r after        SYNC behind a settlement s that waits
-use Rattle.std.specs.Prelude.{◌≡◌, ℕ, ◌+◌, ◌*◌, ◌≤◌, true, false, cond, List, [], ltb, eqb, length}
-use Rattle.certificates.specs.declared.numbers.Round.{Round}
-use Rattle.certificates.specs.Messages.{is_genesis}
+use Rattle.std.specs.Prelude.{◌≡◌, ℕ, ◌+◌, ◌*◌, ◌≤◌, cond, List, [], ltb, eqb, length, Option, Some, None, Result, Ok, Err}
 use Rattle.outputs.specs.Records.{commit_size, sync_size}
 use Rattle.outputs.specs.Put.{Wrote}
 use Rattle.synchronizer.specs.declared.table.Slot.{Slot}
-use Rattle.synchronizer.specs.declared.table.Want.{Want}
-use Rattle.synchronizer.specs.declared.ancestors.Parent.{Parent}
 use Rattle.synchronizer.specs.declared.ancestors.Ancestors.{Ancestors}
-use Rattle.synchronizer.specs.declared.commit.Trail.{Trail}
 use Rattle.synchronizer.specs.declared.commit.Walked.{Walked}
 use Rattle.synchronizer.specs.declared.commit.Chain.{Chain}
 use Rattle.synchronizer.specs.declared.settle.Work.{Work}
@@ -31,37 +23,11 @@ use Rattle.synchronizer.specs.Table.{place_of, stored, store_answer, genesis, an
 use Rattle.synchronizer.specs.Walk.{Commit, commit_of}
 use Rattle.synchronizer.specs.Settle.{Settlement, answered, is_two_chain, clean_of, linked_of, wait_of, clean_most, settle_most}
 
--- ---- the table
-
-abbrev pub want_parent : Slot → Want
-want_parent b = record { any = is_genesis b.parent b.parent_round.0; free = false; digest = b.parent }
-
-abbrev pub parent_by : Slot → Slot → Parent
-parent_by b s = cond (is_genesis b.parent b.parent_round.0) (record { found = true; slot = genesis }) (record { found = s.used; slot = s })
-
-abbrev pub placed : ℕ → ℕ → ℕ → ℕ
-placed found free n = cond (ltb found n) found free
-
 -- ---- the walk
 
-abbrev pub stopped : Round → Slot → ℕ → ℕ → Trail
-stopped last b answer blocks = record { going = false; answer = answer; blocks = blocks; last = last; block = b }
-
-abbrev pub walking : Round → Slot → ℕ → Trail
-walking last b blocks = record { going = ltb (last.0 + 1) b.round.0; answer = 0; blocks = blocks; last = last; block = b }
-
-unfoldable pub set_out : Slot → Round → Trail
-set_out b last = cond (ltb last.0 b.round.0) (walking last b 1) (stopped last b 0 0)
-
-unfoldable pub walk_on : Trail → Parent → Trail
-walk_on u p =
-    cond p.found
-    (cond (ltb p.slot.round.0 u.block.round.0)
-    (cond (ltb u.last.0 p.slot.round.0)
-    (walking u.last p.slot (u.blocks + 1))
-    (stopped u.last u.block 0 u.blocks))
-    (stopped u.last u.block round_not_below 0))
-    (stopped u.last u.block ancestor_absent 0)
+abbrev pub next_walked : ℕ → ℕ → Option Slot → Result (Option Slot) ℕ
+next_walked child last None = Err ancestor_absent
+next_walked child last (Some p) = cond (ltb p.round.0 child) (Ok (cond (ltb last p.round.0) (Some p) None)) (Err round_not_below)
 
 abbrev pub count_of : Commit → Walked
 count_of c = record { answer = c.answer; blocks = length c.blocks }

@@ -7,11 +7,10 @@
 --     Commit                    what a commit brings: the answer, the last committed round, the blocks that are delivered
 --     commit_of t b last        a commit of the block b
 --     chain_of n t b            n blocks, b and its ancestors, oldest first
-use Rattle.std.specs.Prelude.{ℕ, zero, suc, ◌+◌, cond, List, [], ◌∷◌, ◌++◌, ltb, length}
+use Rattle.std.specs.Prelude.{ℕ, zero, suc, ◌+◌, cond, List, [], ◌∷◌, ◌++◌, ltb, length, Option, Some, None}
 use Rattle.synchronizer.specs.declared.table.Slot.{Slot}
-use Rattle.synchronizer.specs.declared.ancestors.Parent.{Parent}
 use Rattle.certificates.specs.Error.{ancestor_absent, round_not_below}
-use Rattle.synchronizer.specs.Table.{parent_of}
+use Rattle.synchronizer.specs.Table.{parent_of, slot_in}
 
 pub data Walk : Type 0 where
   refused : ℕ → Walk
@@ -23,21 +22,20 @@ and_newer (delivers bs) b = delivers (bs ++ b ∷ [])
 
 -- "30 | b0 or a walked parent absent", "31 | walked parent's round not below its child's",
 -- "a parent at or below last committed ends the walk and is not delivered"
-unfoldable pub on_parent : Slot → ℕ → Parent → Walk → Walk
-on_parent b last p w =
-    cond p.found
-    (cond (ltb p.slot.round.0 b.round.0)
-    (cond (ltb last p.slot.round.0)
+unfoldable pub on_parent : Slot → ℕ → Option Slot → Walk → Walk
+on_parent b last None w = refused ancestor_absent
+on_parent b last (Some p) w =
+    cond (ltb p.round.0 b.round.0)
+    (cond (ltb last p.round.0)
     (and_newer w b)
     (delivers (b ∷ [])))
-    (refused round_not_below))
-    (refused ancestor_absent)
+    (refused round_not_below)
 
 -- "walk parents while the round is above last committed + 1"
 unfoldable pub walk_from : ℕ → List Slot → Slot → ℕ → Walk
 walk_from zero t b last = refused round_not_below
 walk_from (suc n) t b last =
-    cond (ltb (last + 1) b.round.0) (on_parent b last (parent_of t b) (walk_from n t (parent_of t b).slot last)) (delivers (b ∷ []))
+    cond (ltb (last + 1) b.round.0) (on_parent b last (parent_of t b) (walk_from n t (slot_in (parent_of t b)) last)) (delivers (b ∷ []))
 
 -- a slot is walked at most once, as each parent's round is below its child's
 unfoldable pub walk_of : List Slot → Slot → ℕ → Walk
@@ -62,4 +60,4 @@ commit_of t b last = cond (ltb last b.round.0) (committed_by b last (walk_of t b
 
 unfoldable pub chain_of : ℕ → List Slot → Slot → List Slot
 chain_of zero t b = []
-chain_of (suc n) t b = chain_of n t (parent_of t b).slot ++ b ∷ []
+chain_of (suc n) t b = chain_of n t (slot_in (parent_of t b)) ++ b ∷ []

@@ -1,27 +1,45 @@
--- `synchronizer::commit::count_walk` meets its contract.
-use mathlib.Core.Path.{sym, ◌∙◌, ap}
-use native.Mathlib.Omega.{arith}
+-- `synchronizer::commit::count_walk` meets its contract: a law for each way out, and for one parent more.
+-- Assumes nothing.
+use Rattle.std.proofs.Common.{rules, ◌≡◌, ◌+◌, ◌<◌, Ok, sym, ◌∙◌, ap}
+use borrow.Author.Tests.{ltb-true, ltb-false}
 use Rattle.synchronizer.specs.Table.{parent_of}
-use Rattle.synchronizer.proofs.WalkLaws.{meant-over, count-start, count-step, sound-start, sound-step, height-step}
+use Rattle.synchronizer.specs.Parts.{next_walked}
+use Rattle.synchronizer.proofs.WalkLaws.{counts-none, counts-start, counts-near, counts-refused, counts-ends, counts-falls, counts-more}
 use Rattle.synchronizer.proofs.commit.count_walk.Goals as goal
+use Rattle.synchronizer.proofs.commit.count_walk.Goals.{After-next_walked}
 
-pub loop-p-init : goal.loop-p-init
-loop-p-init c = (count-start _ _ _ c.set_out-u.ensures, sound-start _ _ _ c.set_out-u.ensures)
+pub returns-then-b0-last : goal.returns-then-b0-last
+returns-then-b0-last c = search (rules, counts-none)
 
-pub walk_on-v-requires : goal.walk_on-v-requires
-walk_on-v-requires c =
-    let sound = c.loop-p.invariant.1 (sym c.goes_on.ensures ∙ c.loop-p-test.true) in
-    omega (arith, sound.few)
+pub loop-last-init : goal.loop-last-init
+loop-last-init c = search (rules, counts-start)
 
-pub loop-p-preserved : goal.loop-p-preserved
-loop-p-preserved c =
-    let goes = sym c.goes_on.ensures ∙ c.loop-p-test.true in
-    let sound = c.loop-p.invariant.1 goes in
-    let found = c.get_parent_block-p.ensures ∙ ap (parent_of c.args.table.now) c.block_of.ensures in
-    (count-step _ c.loop-p.u _ _ goes sound found c.walk_on-v.ensures ∙ c.loop-p.invariant.0, sound-step _ c.loop-p.u _ _ sound found c.walk_on-v.ensures)
+-- in a turn the block is above the last committed round plus 1
+above : (c : After-next_walked) → c.args.last.0 + 1 < c.loop-last.block.round.0
+above c = ltb-true _ _ (sym c.is_above_next.ensures ∙ c.loop-last-test.true)
 
-pub loop-p-smaller : goal.loop-p-smaller
-loop-p-smaller c = height-step c.loop-p.u _ _ (sym c.goes_on.ensures ∙ c.loop-p-test.true) c.walk_on-v.ensures
+next : (c : After-next_walked) → c.next_walked.result ≡ next_walked c.loop-last.block.round.0 c.args.last.0 (parent_of c.args.table.now c.loop-last.block)
+next c = rw (← c.get_parent_block.ensures) c.next_walked.ensures
 
-pub returns : goal.returns
-returns c = meant-over _ c.loop-p.u (sym c.goes_on.ensures ∙ c.loop-p-test.false) c.counted.ensures ∙ c.loop-p.invariant.0
+pub loop-last-preserved : goal.loop-last-preserved
+loop-last-preserved c =
+    let at = (goal.at.loop-last-preserved c).After-next_walked in
+    counts-more _ _ _ _ _ c.loop-last.invariant _ (above at) (next at) _ (c.in-Ok-Some.is ∙ ap Ok c.in-Ok-Some.field-0-is)
+
+pub loop-last-smaller : goal.loop-last-smaller
+loop-last-smaller c =
+    let at = (goal.at.loop-last-smaller c).After-next_walked in
+    counts-falls _ _ _ _ _ c.loop-last.invariant _ (above at) (next at) _ (c.in-Ok-Some.is ∙ ap Ok c.in-Ok-Some.field-0-is)
+
+pub returns-in-Err : goal.returns-in-Err
+returns-in-Err c =
+    let at = (goal.at.returns-in-Err c).After-next_walked in
+    counts-refused _ _ _ _ _ c.loop-last.invariant _ (above at) (next at) _ c.in-Err.is
+
+pub returns-in-Ok-None : goal.returns-in-Ok-None
+returns-in-Ok-None c =
+    let at = (goal.at.returns-in-Ok-None c).After-next_walked in
+    counts-ends _ _ _ _ _ c.loop-last.invariant _ (above at) (next at) (c.in-Ok-None.is ∙ ap Ok c.in-Ok-None.field-0-is)
+
+pub returns-after-loop-last : goal.returns-after-loop-last
+returns-after-loop-last c = counts-near _ _ _ _ _ c.loop-last.invariant (ltb-false _ _ (sym c.is_above_next.ensures ∙ c.loop-last-test.false))

@@ -1,28 +1,24 @@
 -- `synchronizer::commit::write_commits` meets its contract.
-use mathlib.Core.Path.{sym, ◌∙◌}
-use native.Mathlib.Omega.{arith}
-use borrow.Author.Tests.{ltb-true, ltb-false}
-use Rattle.synchronizer.proofs.ChainLaws.{pending-all, pending-less, pending-none}
+-- Assumes nothing.
+use Rattle.std.proofs.Common.{◌≡◌, ◌+◌, ◌-◌, arith}
+use Rattle.synchronizer.specs.Table.{parent_of, slot_in}
+use Rattle.synchronizer.proofs.ChainLaws.{pending-less, pending-none}
 use Rattle.synchronizer.proofs.commit.write_commits.Goals as goal
 
-pub loop-u-init : goal.loop-u-init
-loop-u-init c = pending-all _ _ _
+pub loop-left-preserved-then-left-gt0 : goal.loop-left-preserved-then-left-gt0
+loop-left-preserved-then-left-gt0 c =
+    let n = c.loop-left.left - 1 in
+    let one : c.loop-left.left ≡ n + 1 = omega arith in
+    let next : c.unwrap_or-block.result ≡ slot_in (parent_of c.args.table.now c.loop-left.block) = rw (c.unwrap_or-block.ensures, c.get_parent_block.ensures, c.empty.ensures) in
+    pending-less c.args.table.now c.args.c c.loop-left.block _ n _ (rw one at c.loop-left.invariant) c.put_commit.ensures (λ _. next)
 
-pub write_commit-requires : goal.write_commit-requires
-write_commit-requires c =
-    (ltb-true _ _ (sym c.remains.ensures ∙ c.loop-u-test.true), omega (arith, c.loop-u.invariant.small))
-
-pub follow-v-requires : goal.follow-v-requires
-follow-v-requires c = ltb-true _ _ (sym c.remains.ensures ∙ c.loop-u-test.true)
-
-pub loop-u-preserved : goal.loop-u-preserved
-loop-u-preserved c =
-    pending-less _ _ c.loop-u.u (ltb-true _ _ (sym c.remains.ensures ∙ c.loop-u-test.true)) c.loop-u.invariant c.write_commit.ensures c.child_of.ensures c.get_parent_block-p.ensures c.follow-v.ensures
-
-pub loop-u-smaller : goal.loop-u-smaller
-loop-u-smaller c =
-    let some = ltb-true _ _ (sym c.remains.ensures ∙ c.loop-u-test.true) in
-    rw c.follow-v.ensures (omega arith)
+pub loop-left-preserved : goal.loop-left-preserved
+loop-left-preserved c =
+    let n = c.loop-left.left - 1 in
+    let one : c.loop-left.left ≡ n + 1 = omega arith in
+    pending-less c.args.table.now c.args.c c.loop-left.block _ n _ (rw one at c.loop-left.invariant) c.put_commit.ensures (λ h. absurd (omega arith))
 
 pub returns : goal.returns
-returns c = pending-none _ _ c.loop-u.u (ltb-false _ _ (sym c.remains.ensures ∙ c.loop-u-test.false)) c.loop-u.invariant
+returns c =
+    let none : c.loop-left.left ≡ 0 = omega arith in
+    pending-none c.args.table.now c.args.c c.loop-left.block (rw none at c.loop-left.invariant)

@@ -1,7 +1,7 @@
 -- `synchronizer::settle::write_clean` meets its contract: a law for each way out.
 -- Assumes nothing.
+use Rattle.std.proofs.Common.{rules}
 use Rattle.synchronizer.proofs.SettleLaws.{clean-both, clean-one}
-use borrow.Author.Rules.{rules}
 use Rattle.synchronizer.proofs.settle.write_clean.Goals as goal
 
 pub returns-then-is_two_chain : goal.returns-then-is_two_chain

@@ -1,11 +1,12 @@
--- `synchronizer::settle::write_head` meets its contract: a law for each way out.
+-- `synchronizer::settle::write_head` meets its contract: a law for each branch.
 -- Assumes nothing.
 use Rattle.synchronizer.proofs.SettleLaws.{head-stored, head-none}
-use borrow.Author.Rules.{rules}
 use Rattle.synchronizer.proofs.settle.write_head.Goals as goal
-
-pub returns-then-a-eq-DONE : goal.returns-then-a-eq-DONE
-returns-then-a-eq-DONE c = search (rules, head-stored)
+use Rattle.synchronizer.proofs.settle.write_head.Goals.{then-a-eq-DONE, else-a-eq-DONE}
 
 pub returns : goal.returns
-returns c = search (rules, head-none)
+returns c =
+    elim c.if-a-eq-DONE.branch [
+      | then-a-eq-DONE w ↦ rw (w.at-is, w.out-is) (head-stored c.args.w c.args.a c.args.c w.if-a-eq-DONE.true w.write_clean-at.ensures)
+      | else-a-eq-DONE w ↦ rw (w.at-is, w.out-is) (head-none c.args.w c.args.a c.args.c c.args.out.now w.if-a-eq-DONE.false)
+    ]
