@@ -9,9 +9,9 @@ use mathlib.Core.Path.{◌≡◌, refl, sym, ap, ◌∙◌}
 use native.Mathlib.Omega.{arith}
 use Rattle.certificates.specs.Error.{ancestor_absent, round_not_below}
 use Rattle.certificates.specs.Messages.{is_genesis}
+use Rattle.std.specs.Prelude.{Option, is_some}
 use Rattle.synchronizer.specs.declared.table.Slot.{Slot}
-use Rattle.synchronizer.specs.declared.ancestors.Parent.{Parent}
-use Rattle.synchronizer.specs.Table.{stored, parent_of, ancestors_of}
+use Rattle.synchronizer.specs.Table.{stored, parent_of, slot_in, ancestors_of}
 use Rattle.synchronizer.specs.Walk.{refused, delivers, walk_of}
 use Rattle.synchronizer.proofs.Lookups.{Has, parent-has, parent-genesis, Closed, closed-stored, closed-ancestors, stays-found, ancestors-both, Line, line, stored-has, Stopped, no-b0, in-walk, Sure, walk-delivers}
 use Rattle.replica.specs.Blocks.{slot_for}
@@ -98,7 +98,7 @@ module _ (M : Members) (C : Cabinets M) where
       record Walks (s : Slot) : Type 0 where
         knows : Known s
         certified : Backed P B s.digest
-        parent : (parent_of (stored t b) s).found ≡ true
+        parent : is_some (parent_of (stored t b) s) ≡ true
 
       ancestors : Line t b
       ancestors = line t b found (omega arith) (omega arith)
@@ -126,14 +126,14 @@ module _ (M : Members) (C : Cabinets M) where
         where
           cases : (g : Bool) → is_genesis s.parent s.parent_round.0 ≡ g → Sure (stored t b) last Walks s
           cases true g =
-              let z : (parent_of (stored t b) s).slot.round.0 ≡ 0 = ap (λ (x : Parent). x.slot.round.0) (parent-genesis (stored t b) s g) in
+              let z : (slot_in (parent_of (stored t b) s)).round.0 ≡ 0 = ap (λ (x : Option Slot). (slot_in x).round.0) (parent-genesis (stored t b) s g) in
               record {
                 found = k.parent;
                 lower = omega (arith, k.knows.at, positive P (trusted M) s.digest (B.round s.digest) k.certified);
                 next = λ h. absurd (omega arith);
               }
           cases false g =
-              let c = (parent_of (stored t b) s).slot in
+              let c = slot_in (parent_of (stored t b) s) in
               let h = parent-has (stored t b) s g k.parent in
               let l = known-stored c h.0 in
               record {
