@@ -9,6 +9,8 @@ use Prim.Native.Nat.{ℕ, suc, ◌+◌, ◌*◌, ◌≤◌, ◌<◌}
 use mathlib.Core.Bool.{Bool, true, false, cond}
 use mathlib.Core.List.{List}
 use mathlib.Core.Logic.{◌⊎◌, inl, inr, by_cases}
+use Rattle.std.specs.Prelude.{None, Some, Ok, Err}
+use Rattle.aggregator.specs.declared.tallies.AddError.TheVariants.{NoRoom, Used}
 use Rattle.std.proofs.Common.{Option, Some, None}
 use mathlib.Core.Path.{◌≡◌, refl, sym, ap, ◌∙◌}
 use native.Mathlib.Decide.{ℕ_discrete}
@@ -18,13 +20,11 @@ use lib.Dec.{ltb}
 use lib.ListN.{length}
 use Rattle.certificates.specs.declared.numbers.Hash.{Hash}
 use Rattle.certificates.specs.declared.numbers.Signers.{Signers}
-use Rattle.aggregator.specs.declared.tallies.Added.{Added}
-use Rattle.aggregator.specs.declared.tallies.Added.TheVariants.{NoRoom, Used, More, Full}
 use Rattle.aggregator.specs.Rows.{row, with_row}
-use Rattle.aggregator.specs.Tally.{vote_width, timeout_width, used_of, weight_of, names_of, is_vote, of_round, new_vote, new_timeout, has_name, with_name, signers, with_high, no_high, with_author, answer_of}
+use Rattle.aggregator.specs.Tally.{vote_width, timeout_width, used_of, weight_of, names_of, is_vote, of_round, new_vote, new_timeout, has_name, with_name, signers, with_high, no_high, with_author, answer_of, Added, quorum_at}
 use Rattle.aggregator.specs.Tallies.{vote_tallies, timeout_tallies, votes_length, timeouts_length, Light, place_for, table_for, TallyFor, answer_at, table_at, added, after, vote_added, votes_after, timeout_added, timeouts_after}
 use Rattle.aggregator.proofs.Rows.{row-length, row_within, with_row-row, with_row-length, with_row-other}
-use Rattle.aggregator.proofs.TallyLaws.{name-with, author-length, author-names, author-weight, Kind, kind-keyed, vote-kind, timeout-kind}
+use Rattle.aggregator.proofs.TallyLaws.{name-with, author-length, author-names, author-weight, Kind, kind-keyed, vote-kind, timeout-kind, quorum-same}
 use Rattle.aggregator.proofs.TableLaws.{tally-for, Stands, was-there, was-new, tally-stands, tally-passes, tally-length, Each}
 
 -- The author p is counted in the tally t, which was there or is new: v' has it in row i, and is otherwise v.
@@ -39,10 +39,10 @@ pub record Counted (test : List ℕ → Bool) (new : List ℕ) (mark : List ℕ 
   pub long : length v' ≡ length v
 
 pub data Addition (test : List ℕ → Bool) (new : List ℕ) (mark : List ℕ → List ℕ) (w n : ℕ) (v : List ℕ) (p stake need : ℕ) (a : Added) (v' : List ℕ) : Type 0 where
-  no_row : a ≡ NoRoom → v' ≡ v → Addition test new mark w n v p stake need a v'
-  used : a ≡ Used → v' ≡ v → Addition test new mark w n v p stake need a v'
-  more : (i : ℕ) (t : List ℕ) → Counted test new mark w n v p stake need i t v' → a ≡ More → weight_of t + stake < need → Addition test new mark w n v p stake need a v'
-  full : (i : ℕ) (t : List ℕ) → Counted test new mark w n v p stake need i t v' → a ≡ Full i (signers (with_name (names_of t) p)) → need ≤ weight_of t + stake
+  no_row : a ≡ Err NoRoom → v' ≡ v → Addition test new mark w n v p stake need a v'
+  used : a ≡ Err Used → v' ≡ v → Addition test new mark w n v p stake need a v'
+  more : (i : ℕ) (t : List ℕ) → Counted test new mark w n v p stake need i t v' → a ≡ Ok None → weight_of t + stake < need → Addition test new mark w n v p stake need a v'
+  full : (i : ℕ) (t : List ℕ) → Counted test new mark w n v p stake need i t v' → a ≡ quorum_at i (signers (with_name (names_of t) p)) → need ≤ weight_of t + stake
       → Addition test new mark w n v p stake need a v'
 
 -- A quorum: the word is the names of the tally and the author's, which are those of the row.
@@ -88,7 +88,7 @@ module _ {test : List ℕ → Bool} {new : List ℕ} {mark : List ℕ → List �
   addition = at (place_for test w n v) refl
     where
       in-tally : (i : ℕ) → TallyFor test new w n v (Some i) (table_for test new w n v) → (b d : Bool) → b ≡ has_name (names_of (row w (table_for test new w n v) i)) p → d ≡ ltb (weight_of (row w (table_for test new w n v) i) + stake) need
-          → Addition test new mark w n v p stake need (cond b Used (cond d More (Full i (signers (with_name (names_of (row w (table_for test new w n v) i)) p)))))
+          → Addition test new mark w n v p stake need (cond b (Err Used) (cond d (Ok None) (quorum_at i (signers (with_name (names_of (row w (table_for test new w n v) i)) p)))))
           (cond b v (with_row w (table_for test new w n v) i (with_author mark (row w (table_for test new w n v) i) p stake need)))
       in-tally i t true d e f = used refl refl
       in-tally i t false true e f = more i _ (once-counted i (table_for test new w n v) t (sym e)) refl (ltb-true _ _ (sym f))
@@ -157,21 +157,20 @@ module _ {test : List ℕ → Bool} {new : List ℕ} {mark : List ℕ → List �
   addition-length (full i t c e h) = c.long
 
   -- only a refusal leaves the table as it was
-  pub addition-same : Kind test new mark w → Addition test new mark w n v p stake need a v' → v' ≡ v → (a ≡ NoRoom) ⊎ (a ≡ Used)
+  pub addition-same : Kind test new mark w → Addition test new mark w n v p stake need a v' → v' ≡ v → (a ≡ Err NoRoom) ⊎ (a ≡ Err Used)
   addition-same k (no_row e s) q = inl e
   addition-same k (used e s) q = inr e
   addition-same k (more i t c e h) q = absurd (counted-changes k c q)
   addition-same k (full i t c e h) q = absurd (counted-changes k c q)
 
   -- at the quorum: the author is counted, its stake makes the quorum, and the word is what the row's names now are
-  pub addition-full : {i : ℕ} {s : Signers} → Kind test new mark w → Addition test new mark w n v p stake need a v' → a ≡ Full i s → Filled test new mark w n v p stake need i s v'
+  pub addition-full : {i : ℕ} {s : Signers} → Kind test new mark w → Addition test new mark w n v p stake need a v' → a ≡ quorum_at i s → Filled test new mark w n v p stake need i s v'
   addition-full k (no_row e s) q = absurd (let z : ◌≡◌ {A = ℕ} 0 1 = cc in omega arith)
   addition-full k (used e s) q = absurd (let z : ◌≡◌ {A = ℕ} 0 1 = cc in omega arith)
   addition-full k (more i t c e h) q = absurd (let z : ◌≡◌ {A = ℕ} 0 1 = cc in omega arith)
   addition-full {i} {s} k (full j t c e h) q =
-      let z : j ≡ i = cc in
-      let y : s ≡ signers (with_name (names_of t) p) = cc in
-      rw (← z, y) (record { tally = t; counted = c; reached = h; names = refl; word = sym (counted-names k c) })
+      let same = quorum-same (sym e ∙ q) in
+      rw (← same.0, ← same.1) (record { tally = t; counted = c; reached = h; names = refl; word = sym (counted-names k c) })
 
   -- what holds of every tally in use, of a new one and of a tally with one more author still holds of every tally in use
   pub addition-each : (P : List ℕ → Type 0) → Kind test new mark w → Addition test new mark w n v p stake need a v' → Each P w n v → P new

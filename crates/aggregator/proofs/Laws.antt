@@ -11,6 +11,8 @@ use Prim.Native.Nat.{ℕ, suc, ◌+◌, ◌*◌, ◌≤◌, ◌<◌}
 use mathlib.Core.Bool.{Bool, true, false}
 use mathlib.Core.List.{List}
 use mathlib.Core.Logic.{◌⊎◌}
+use Rattle.std.specs.Prelude.{None, Some, Err}
+use Rattle.aggregator.specs.declared.tallies.AddError.TheVariants.{NoRoom, Used}
 use Rattle.std.proofs.Common.{Option, Some, None, is_some}
 use mathlib.Core.Path.{◌≡◌, refl, sym, ◌∙◌}
 use native.Mathlib.Omega.{arith}
@@ -20,10 +22,8 @@ use lib.ListN.{length, get_or}
 use lib.Seq.{get_or-drop}
 use Rattle.certificates.specs.declared.numbers.Hash.{Hash}
 use Rattle.certificates.specs.declared.numbers.Signers.{Signers}
-use Rattle.aggregator.specs.declared.tallies.Added.{Added}
-use Rattle.aggregator.specs.declared.tallies.Added.TheVariants.{NoRoom, Used, Full}
 use Rattle.aggregator.specs.Rows.{zeros, row}
-use Rattle.aggregator.specs.Tally.{fields, places, vote_width, timeout_width, used_of, weight_of, is_vote, of_round, is_heavy, heavy_with, kept, new_vote, new_timeout, with_high, no_high, AddedAs}
+use Rattle.aggregator.specs.Tally.{fields, places, vote_width, timeout_width, used_of, weight_of, is_vote, of_round, is_heavy, heavy_with, kept, new_vote, new_timeout, with_high, no_high, AddedAs, Added, quorum_at}
 use Rattle.aggregator.specs.Tallies.{vote_tallies, timeout_tallies, votes_length, timeouts_length, total_max, find_row, find_heavy, heavy, Light, dropped, Countable, vote_added, votes_after, timeout_added, timeouts_after, highs_at}
 use Rattle.aggregator.proofs.Rows.{lowest-none, none-lowest, map_rows-length, map_rows-same, zeros-row}
 use Rattle.aggregator.proofs.TallyLaws.{keep-free, kept-length, vote-kind, timeout-kind}
@@ -83,15 +83,15 @@ zeros-light w n m total h = let e = each-zeros (λ (t : List ℕ). weight_of t �
 
 module _ (votes : List ℕ) (round : ℕ) (hash : Hash) (p stake need : ℕ) where
   module _ {r : Added} {v' : List ℕ} (d : AddedAs (vote_added votes round hash p stake need) (votes_after votes round hash p stake need) r v') where
-    pub vote-no-room : r ≡ NoRoom → v' ≡ votes
+    pub vote-no-room : r ≡ Err NoRoom → v' ≡ votes
     unfolding vote_added votes_after
     vote-no-room e = d.table ∙ added-no-room _ _ _ _ _ _ _ _ _ (sym d.answer ∙ e)
 
-    pub vote-used : r ≡ Used → v' ≡ votes
+    pub vote-used : r ≡ Err Used → v' ≡ votes
     unfolding vote_added votes_after
     vote-used e = d.table ∙ added-used _ _ _ _ _ _ _ _ _ (sym d.answer ∙ e)
 
-    pub vote-below : {i : ℕ} {s : Signers} → r ≡ Full i s → i < vote_tallies
+    pub vote-below : {i : ℕ} {s : Signers} → r ≡ quorum_at i s → i < vote_tallies
     unfolding vote_added
     vote-below e = added-below _ _ _ _ _ _ _ _ (sym d.answer ∙ e)
 
@@ -102,10 +102,10 @@ module _ (votes : List ℕ) (round : ℕ) (hash : Hash) (p stake need : ℕ) whe
     pub votes-after-light : (total : ℕ) → need ≤ suc total → Light vote_width vote_tallies votes total → Light vote_width vote_tallies (votes_after votes round hash p stake need) total
     votes-after-light total q h = addition-light total (vote-kind round hash) q (vote-addition votes round hash p stake need long) h
 
-    pub vote-same : votes_after votes round hash p stake need ≡ votes → (vote_added votes round hash p stake need ≡ NoRoom) ⊎ (vote_added votes round hash p stake need ≡ Used)
+    pub vote-same : votes_after votes round hash p stake need ≡ votes → (vote_added votes round hash p stake need ≡ Err NoRoom) ⊎ (vote_added votes round hash p stake need ≡ Err Used)
     vote-same = addition-same (vote-kind round hash) (vote-addition votes round hash p stake need long)
 
-    pub vote-full : {i : ℕ} {s : Signers} → vote_added votes round hash p stake need ≡ Full i s
+    pub vote-full : {i : ℕ} {s : Signers} → vote_added votes round hash p stake need ≡ quorum_at i s
         → Filled (is_vote round hash) (new_vote round hash) no_high vote_width vote_tallies votes p stake need i s (votes_after votes round hash p stake need)
     vote-full = addition-full (vote-kind round hash) (vote-addition votes round hash p stake need long)
 
@@ -113,15 +113,15 @@ module _ (votes : List ℕ) (round : ℕ) (hash : Hash) (p stake need : ℕ) whe
 
 module _ (timeouts : List ℕ) (round p stake need high : ℕ) where
   module _ {r : Added} {v' : List ℕ} (d : AddedAs (timeout_added timeouts round p stake need) (timeouts_after timeouts round p stake need high) r v') where
-    pub timeout-no-room : r ≡ NoRoom → v' ≡ timeouts
+    pub timeout-no-room : r ≡ Err NoRoom → v' ≡ timeouts
     unfolding timeout_added timeouts_after
     timeout-no-room e = d.table ∙ added-no-room _ _ _ _ _ _ _ _ _ (sym d.answer ∙ e)
 
-    pub timeout-used : r ≡ Used → v' ≡ timeouts
+    pub timeout-used : r ≡ Err Used → v' ≡ timeouts
     unfolding timeout_added timeouts_after
     timeout-used e = d.table ∙ added-used _ _ _ _ _ _ _ _ _ (sym d.answer ∙ e)
 
-    pub timeout-below : {i : ℕ} {s : Signers} → r ≡ Full i s → i < timeout_tallies
+    pub timeout-below : {i : ℕ} {s : Signers} → r ≡ quorum_at i s → i < timeout_tallies
     unfolding timeout_added
     timeout-below e = added-below _ _ _ _ _ _ _ _ (sym d.answer ∙ e)
 
@@ -133,10 +133,10 @@ module _ (timeouts : List ℕ) (round p stake need high : ℕ) where
         → Light timeout_width timeout_tallies (timeouts_after timeouts round p stake need high) total
     timeouts-after-light total q h = addition-light total (timeout-kind round p high) q (timeout-addition timeouts round p stake need high long) h
 
-    pub timeout-same : timeouts_after timeouts round p stake need high ≡ timeouts → (timeout_added timeouts round p stake need ≡ NoRoom) ⊎ (timeout_added timeouts round p stake need ≡ Used)
+    pub timeout-same : timeouts_after timeouts round p stake need high ≡ timeouts → (timeout_added timeouts round p stake need ≡ Err NoRoom) ⊎ (timeout_added timeouts round p stake need ≡ Err Used)
     timeout-same = addition-same (timeout-kind round p high) (timeout-addition timeouts round p stake need high long)
 
-    pub timeout-full : {i : ℕ} {s : Signers} → timeout_added timeouts round p stake need ≡ Full i s
+    pub timeout-full : {i : ℕ} {s : Signers} → timeout_added timeouts round p stake need ≡ quorum_at i s
         → Filled (of_round round) (new_timeout round) (with_high p high) timeout_width timeout_tallies timeouts p stake need i s (timeouts_after timeouts round p stake need high)
     timeout-full = addition-full (timeout-kind round p high) (timeout-addition timeouts round p stake need high long)
 

@@ -12,6 +12,8 @@ use Prim.Native.Nat.{ℕ, zero, suc, ◌+◌, ◌-◌, ◌*◌, ◌≤◌, ◌<�
 use mathlib.Core.Bool.{Bool, true, false, not, cond, ◌||◌}
 use mathlib.Core.List.{List}
 use mathlib.Core.Logic.{⊎_elim}
+use Rattle.std.specs.Prelude.{None, Some, Err}
+use Rattle.aggregator.specs.declared.tallies.AddError.TheVariants.{NoRoom, Used}
 use Rattle.std.proofs.Common.{Option, Some, None}
 use Rattle.std.proofs.lemmas.Nat.{le_or_l, le_or_r}
 use mathlib.Core.Path.{◌≡◌, refl, sym, ap, ◌∙◌}
@@ -24,10 +26,8 @@ use lib.Bits.{bit_or}
 use lib.ListN.{length, get_or, take, drop, length-take, length-drop}
 use lib.Seq.{drop-drop, drop_at, take-add, length-take-le}
 use Rattle.certificates.specs.declared.numbers.Signers.{Signers}
-use Rattle.aggregator.specs.declared.tallies.Added.{Added}
-use Rattle.aggregator.specs.declared.tallies.Added.TheVariants.{NoRoom, Used, Full}
 use Rattle.aggregator.specs.Rows.{zeros, row, with_row, FoundAs}
-use Rattle.aggregator.specs.Tally.{fields, places, vote_width, timeout_width, used_of, round_of, weight_of, names_of, is_free, is_heavy, kept, has_name, with_author, counted, answer_of, AddedAs}
+use Rattle.aggregator.specs.Tally.{fields, places, vote_width, timeout_width, used_of, round_of, weight_of, names_of, is_free, is_heavy, kept, has_name, with_author, counted, answer_of, AddedAs, Added, quorum_at}
 use Rattle.aggregator.specs.Tallies.{vote_tallies, timeout_tallies, timeouts_length, total_max, find_row, find_free, find_heavy, heavy, any_heavy, Light, joined, dropped, first_of, place_for, opened, table_for, TallyFor, Countable, answer_at, table_at, added, after, highs_at, HighsAs}
 use Rattle.aggregator.specs.Keys.{Keyed}
 use Rattle.aggregator.proofs.Rows.{none_found, part-row, put_as, row_at, row_within, lowest-below, lowest-holds, none-lowest, with_row-same, with_row-row, with_row-length, with_row-each, map_rows-row, zeros-row}
@@ -153,7 +153,7 @@ module _ {test : List ℕ → Bool} {new : List ℕ} {w n : ℕ} {v v' : List �
   add-fits e c = omega (arith, tally-light k (omega (arith, c.long)) (rw e at t) total_max c.light)
 
   module _ (mark : List ℕ → List ℕ) where
-    pub add-full : f ≡ None → AddedAs (added test new w n v p stake need) (after test new mark w n v p stake need) NoRoom v'
+    pub add-full : f ≡ None → AddedAs (added test new w n v p stake need) (after test new mark w n v p stake need) (Err NoRoom) v'
     unfolding added after
     add-full e = record { answer = rw (← t.place, e); table = rw (← t.place, e) (tally-full (rw e at t)) }
 
@@ -176,28 +176,28 @@ module _ {test : List ℕ → Bool} {new : List ℕ} {w n : ℕ} {v v' : List �
 
 module _ (test : List ℕ → Bool) (new : List ℕ) (w n : ℕ) (v : List ℕ) (p stake need : ℕ) where
   -- a refusal leaves the table as it was
-  pub added-no-room : (mark : List ℕ → List ℕ) → added test new w n v p stake need ≡ NoRoom → after test new mark w n v p stake need ≡ v
+  pub added-no-room : (mark : List ℕ → List ℕ) → added test new w n v p stake need ≡ Err NoRoom → after test new mark w n v p stake need ≡ v
   unfolding added after
   added-no-room mark e = cases (place_for test w n v) e
     where
-      cases : (f : Option ℕ) → answer_at w (table_for test new w n v) p stake need f ≡ NoRoom → table_at mark w v (table_for test new w n v) p stake need f ≡ v
+      cases : (f : Option ℕ) → answer_at w (table_for test new w n v) p stake need f ≡ Err NoRoom → table_at mark w v (table_for test new w n v) p stake need f ≡ v
       cases None q = refl
       cases (Some i) q = absurd (answer-some i (row w (table_for test new w n v) i) p stake need q)
 
-  pub added-used : (mark : List ℕ → List ℕ) → added test new w n v p stake need ≡ Used → after test new mark w n v p stake need ≡ v
+  pub added-used : (mark : List ℕ → List ℕ) → added test new w n v p stake need ≡ Err Used → after test new mark w n v p stake need ≡ v
   unfolding added after
   added-used mark e = cases (place_for test w n v) e
     where
-      cases : (f : Option ℕ) → answer_at w (table_for test new w n v) p stake need f ≡ Used → table_at mark w v (table_for test new w n v) p stake need f ≡ v
+      cases : (f : Option ℕ) → answer_at w (table_for test new w n v) p stake need f ≡ Err Used → table_at mark w v (table_for test new w n v) p stake need f ≡ v
       cases None q = refl
       cases (Some i) q = rw (used-has i (row w (table_for test new w n v) i) p stake need (sym q))
 
   -- the row of a quorum is one of the table's
-  pub added-below : {i : ℕ} {s : Signers} → added test new w n v p stake need ≡ Full i s → i < n
+  pub added-below : {i : ℕ} {s : Signers} → added test new w n v p stake need ≡ quorum_at i s → i < n
   unfolding added
   added-below {i} {s} e = cases (place_for test w n v) refl e
     where
-      cases : (f : Option ℕ) → place_for test w n v ≡ f → answer_at w (table_for test new w n v) p stake need f ≡ Full i s → i < n
+      cases : (f : Option ℕ) → place_for test w n v ≡ f → answer_at w (table_for test new w n v) p stake need f ≡ quorum_at i s → i < n
       cases None z q = absurd (let y : ◌≡◌ {A = ℕ} 0 1 = cc in omega arith)
       cases (Some j) z q = rw (← answer-row j (row w (table_for test new w n v) j) p stake need q) ((tally-for test new w n v).below j z)
 

@@ -19,14 +19,15 @@ use lib.Dec.{eqb, ltb}
 use lib.Pow.{pow_pos}
 use lib.ListN.{length, get_or, set, length-set, length-replicate}
 use lib.Seq.{get_or-set_same, get_or-set_other}
+use Rattle.aggregator.specs.declared.tallies.Quorum.{Quorum}
+use Rattle.std.specs.Prelude.{None, Ok, Err}
+use Rattle.aggregator.specs.declared.tallies.AddError.TheVariants.{NoRoom, Used}
 use Rattle.certificates.specs.declared.numbers.Hash.{Hash}
 use Rattle.certificates.specs.declared.numbers.Signers.{Signers}
 use Rattle.certificates.specs.Numbers.{same_hash}
 use Rattle.certificates.proofs.NumbersLaws.{both, hash-same}
-use Rattle.aggregator.specs.declared.tallies.Added.{Added}
-use Rattle.aggregator.specs.declared.tallies.Added.TheVariants.{NoRoom, Used, More, Full}
 use Rattle.aggregator.specs.Rows.{zeros}
-use Rattle.aggregator.specs.Tally.{fields, places, vote_width, timeout_width, used_of, round_of, weight_of, names_of, hash_of, is_free, is_vote, round_with, of_round, heavy_with, kept, new_vote, new_timeout, has_name, with_name, signers, with_high, no_high, with_author, counted, answer_of, AddedAs}
+use Rattle.aggregator.specs.Tally.{fields, places, vote_width, timeout_width, used_of, round_of, weight_of, names_of, hash_of, is_free, is_vote, round_with, of_round, heavy_with, kept, new_vote, new_timeout, has_name, with_name, signers, with_high, no_high, with_author, counted, answer_of, AddedAs, Added, quorum_at}
 use Rattle.aggregator.specs.Keys.{Keyed, vote-keyed, timeout-keyed}
 use Rattle.aggregator.proofs.Rows.{one_shl, zeros-at}
 
@@ -78,14 +79,14 @@ unfolding new_timeout
 timeout-opened round t e l = rw (e, l)
 
 module _ (mark : List ℕ → List ℕ) (i : ℕ) (t : List ℕ) (p stake need : ℕ) where
-  pub append-used : get_or t 3 0 / 2 ^ p % 2 ≡ 1 → AddedAs (answer_of i t p stake need) (counted mark t p stake need) Used t
+  pub append-used : get_or t 3 0 / 2 ^ p % 2 ≡ 1 → AddedAs (answer_of i t p stake need) (counted mark t p stake need) (Err Used) t
   unfolding answer_of counted
   append-used h = record { answer = rw (eq-eqb _ _ h); table = rw (eq-eqb _ _ h) }
 
   module _ (new : get_or t 3 0 / 2 ^ p % 2 ≡ 1 → ⊥) (h : p < places) {t' : List ℕ} where
     pub append-more : get_or t 2 0 + stake < need
         → t' ≡ mark (set (set t 3 (bit_or (get_or t 3 0) (1 * 2 ^ p % 2 ^ 64))) 2 (get_or t 2 0 + stake))
-        → AddedAs (answer_of i t p stake need) (counted mark t p stake need) More t'
+        → AddedAs (answer_of i t p stake need) (counted mark t p stake need) (Ok None) t'
     unfolding answer_of counted with_author
     append-more m e =
         record {
@@ -95,7 +96,7 @@ module _ (mark : List ℕ → List ℕ) (i : ℕ) (t : List ℕ) (p stake need :
 
     pub append-full : need ≤ get_or t 2 0 + stake
         → t' ≡ mark (set (set t 3 (bit_or (get_or t 3 0) (1 * 2 ^ p % 2 ^ 64))) 2 0)
-        → AddedAs (answer_of i t p stake need) (counted mark t p stake need) (Full i (signers (bit_or (get_or t 3 0) (1 * 2 ^ p % 2 ^ 64)))) t'
+        → AddedAs (answer_of i t p stake need) (counted mark t p stake need) (quorum_at i (signers (bit_or (get_or t 3 0) (1 * 2 ^ p % 2 ^ 64)))) t'
     unfolding answer_of counted with_author
     append-full m e =
         record {
@@ -103,34 +104,39 @@ module _ (mark : List ℕ → List ℕ) (i : ℕ) (t : List ℕ) (p stake need :
           table = rw (ne_eqb _ _ new, le-ltb _ _ m) (rw (one_shl p h) at e);
         }
 
-name-used : (b d : Bool) (a : Added) → Used ≡ cond b Used (cond d More a) → (a ≡ Used → ⊥) → b ≡ true
+name-used : (b d : Bool) (a : Added) → (Err Used) ≡ cond b (Err Used) (cond d (Ok None) a) → (a ≡ Err Used → ⊥) → b ≡ true
 name-used true d a e h = refl
 name-used false true a e h = absurd (let z : ◌≡◌ {A = ℕ} 0 1 = cc in omega arith)
 name-used false false a e h = absurd (h (sym e))
 
-no-room-never : (b d : Bool) (i : ℕ) (s : Signers) → cond b Used (cond d More (Full i s)) ≡ NoRoom → ⊥
+no-room-never : (b d : Bool) (i : ℕ) (s : Signers) → cond b (Err Used) (cond d (Ok None) (quorum_at i s)) ≡ Err NoRoom → ⊥
 no-room-never true d i s e = let z : ◌≡◌ {A = ℕ} 0 1 = cc in omega arith
 no-room-never false true i s e = let z : ◌≡◌ {A = ℕ} 0 1 = cc in omega arith
 no-room-never false false i s e = let z : ◌≡◌ {A = ℕ} 0 1 = cc in omega arith
 
-full-row : (b d : Bool) (i j : ℕ) (s u : Signers) → cond b Used (cond d More (Full i s)) ≡ Full j u → i ≡ j
+pub quorum-same : {i j : ℕ} {s u : Signers} → quorum_at i s ≡ quorum_at j u → (i ≡ j) × (s ≡ u)
+quorum-same {i} {j} {s} {u} e =
+    let p : ◌≡◌ {A = Quorum} (record { row = i; signers = s }) (record { row = j; signers = u }) = cc in
+    (ap (λ (q : Quorum). q.row) p, ap (λ (q : Quorum). q.signers) p)
+
+full-row : (b d : Bool) (i j : ℕ) (s u : Signers) → cond b (Err Used) (cond d (Ok None) (quorum_at i s)) ≡ quorum_at j u → i ≡ j
 full-row true d i j s u e = absurd (let z : ◌≡◌ {A = ℕ} 0 1 = cc in omega arith)
 full-row false true i j s u e = absurd (let z : ◌≡◌ {A = ℕ} 0 1 = cc in omega arith)
-full-row false false i j s u e = cc
+full-row false false i j s u e = (quorum-same e).0
 
 module _ (i : ℕ) (t : List ℕ) (p stake need : ℕ) where
   -- there is room in a tally
-  pub answer-some : answer_of i t p stake need ≡ NoRoom → ⊥
+  pub answer-some : answer_of i t p stake need ≡ Err NoRoom → ⊥
   unfolding answer_of
   answer-some e = no-room-never (has_name (names_of t) p) (ltb (weight_of t + stake) need) i _ e
 
   -- and the row of a quorum is its row
-  pub answer-row : {j : ℕ} {s : Signers} → answer_of i t p stake need ≡ Full j s → i ≡ j
+  pub answer-row : {j : ℕ} {s : Signers} → answer_of i t p stake need ≡ quorum_at j s → i ≡ j
   unfolding answer_of
   answer-row {j} {s} e = full-row (has_name (names_of t) p) (ltb (weight_of t + stake) need) i j _ s e
 
   -- who is refused was counted already
-  pub used-has : Used ≡ answer_of i t p stake need → has_name (names_of t) p ≡ true
+  pub used-has : (Err Used) ≡ answer_of i t p stake need → has_name (names_of t) p ≡ true
   unfolding answer_of
   used-has e = name-used (has_name (names_of t) p) (ltb (weight_of t + stake) need) _ e (λ q. let z : ◌≡◌ {A = ℕ} 0 1 = cc in omega arith)
 

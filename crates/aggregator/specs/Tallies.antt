@@ -19,14 +19,13 @@
 --     timeout_added, timeouts_after       the two for a timeout
 --     highs_at v i                        the high rounds of the timeout tally in row i, by place
 --     HighsAs v i h                       h is those, one for each place
-use Rattle.std.specs.Prelude.{ℕ, zero, suc, ◌*◌, ◌≤◌, ◌<◌, Bool, cond, ◌||◌, Option, Some, None, is_some, List, ◌≡◌, length, drop}
+use Rattle.aggregator.specs.declared.tallies.AddError.TheVariants.{NoRoom}
+use Rattle.std.specs.Prelude.{ℕ, zero, suc, ◌*◌, ◌≤◌, ◌<◌, Bool, cond, ◌||◌, Option, Some, None, is_some, List, ◌≡◌, length, drop, Err}
 use Rattle.std.specs.Int.Bits.{bit_or}
 use Rattle.certificates.specs.Config as limits
 use Rattle.certificates.specs.declared.numbers.Hash.{Hash}
-use Rattle.aggregator.specs.declared.tallies.Added.{Added}
-use Rattle.aggregator.specs.declared.tallies.Added.TheVariants.{NoRoom}
 use Rattle.aggregator.specs.Rows.{row, with_row, lowest, map_rows}
-use Rattle.aggregator.specs.Tally.{fields, places, vote_width, timeout_width, used_of, weight_of, names_of, is_free, is_vote, of_round, is_heavy, kept, new_vote, new_timeout, has_name, with_high, no_high, with_author, answer_of}
+use Rattle.aggregator.specs.Tally.{fields, places, vote_width, timeout_width, used_of, weight_of, names_of, is_free, is_vote, of_round, is_heavy, kept, new_vote, new_timeout, has_name, with_high, no_high, with_author, answer_of, Added}
 
 -- "all 32 vote or 16 timeout tallies"
 abbrev pub vote_tallies : ℕ
@@ -104,7 +103,7 @@ pub record Countable (w n : ℕ) (v : List ℕ) (p stake : ℕ) : Type 0 where
 
 -- 29: "new tally, all 32 vote or 16 timeout tallies held"; else what the tally in row i of t answers
 abbrev pub answer_at : ℕ → List ℕ → ℕ → ℕ → ℕ → Option ℕ → Added
-answer_at w t p stake need None = NoRoom
+answer_at w t p stake need None = Err NoRoom
 answer_at w t p stake need (Some i) = answer_of i (row w t i) p stake need
 
 unfoldable pub added : (List ℕ → Bool) → List ℕ → ℕ → ℕ → List ℕ → ℕ → ℕ → ℕ → Added

@@ -17,15 +17,16 @@
 --     counted mark t p stake need     the same, but a used author changes nothing
 --     answer_of i t p stake need      what is then answered of the tally in row i
 --     AddedAs a v r v'                the answer r is a, and the numbers v' are v
-use Rattle.std.specs.Prelude.{ℕ, ◌+◌, ◌/◌, ◌%◌, ◌^◌, Bool, false, cond, List, [], ◌∷◌, ◌≡◌, eqb, ltb, length, get_or, set}
+use Rattle.aggregator.specs.declared.tallies.AddError.TheVariants.{Used}
+use Rattle.std.specs.Prelude.{ℕ, ◌+◌, ◌/◌, ◌%◌, ◌^◌, Bool, false, cond, List, [], ◌∷◌, ◌≡◌, eqb, ltb, length, get_or, set, None, Ok, Err, Option, Some, Result}
 use Rattle.std.specs.Int.Bits.{bit_or}
 use Rattle.certificates.specs.Config as limits
 use Rattle.certificates.specs.declared.numbers.Hash.{Hash}
 use Rattle.certificates.specs.declared.numbers.Signers.{Signers}
 use Rattle.certificates.specs.Numbers.{same_hash}
-use Rattle.aggregator.specs.declared.tallies.Added.{Added}
-use Rattle.aggregator.specs.declared.tallies.Added.TheVariants.{Used, More, Full}
 use Rattle.aggregator.specs.Rows.{zeros}
+use Rattle.aggregator.specs.declared.tallies.Quorum.{Quorum}
+use Rattle.aggregator.specs.declared.tallies.AddError.{AddError}
 
 abbrev pub fields : ℕ
 fields = 4
@@ -120,12 +121,19 @@ with_author mark t p stake need = mark (with_weight (with_names t (with_name (na
 unfoldable pub counted : (List ℕ → List ℕ) → List ℕ → ℕ → ℕ → ℕ → List ℕ
 counted mark t p stake need = cond (has_name (names_of t) p) t (with_author mark t p stake need)
 
+-- what becomes of a vote or a timeout: why it is not counted; nothing more; or the quorum of the tally in row i, with the names s
+abbrev pub Added : Type 0
+Added = Result (Option Quorum) AddError
+
+abbrev pub quorum_at : ℕ → Signers → Added
+quorum_at i s = Ok (Some (record { row = i; signers = s }))
+
 -- "A used author is REUSE."
 unfoldable pub answer_of : ℕ → List ℕ → ℕ → ℕ → ℕ → Added
 answer_of i t p stake need =
-    cond (has_name (names_of t) p) Used
-    (cond (ltb (weight_of t + stake) need) More
-    (Full i (signers (with_name (names_of t) p))))
+    cond (has_name (names_of t) p) (Err Used)
+    (cond (ltb (weight_of t + stake) need) (Ok None)
+    (quorum_at i (signers (with_name (names_of t) p))))
 
 pub record AddedAs (a : Added) (v : List ℕ) (r : Added) (v' : List ℕ) : Type 0 where
   pub answer : r ≡ a

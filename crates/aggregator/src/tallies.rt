@@ -23,18 +23,25 @@ pub const TIMEOUT_TALLIES: usize = 16;
 
 pub const TIMEOUT_WIDTH: usize = 68;
 
-// What became of a vote or a timeout.
-#[derive(Clone, Copy)]
-pub enum Added {
+// A tally that has the quorum: its row, and its names.
+#[derive(Clone, Copy, Debug, PartialEq, Eq)]
+pub struct Quorum {
+    pub row: usize,
+    pub signers: Signers,
+}
+
+// Why a vote or a timeout is not counted.
+#[derive(Clone, Copy, Debug, PartialEq, Eq)]
+pub enum AddError {
     // There is no tally for it, and all are held.
     NoRoom,
     // Its author was counted already.
     Used,
-    // It is counted, and the tally is short of the quorum.
-    More,
-    // It is counted, and the tally in this row has the quorum, with these names.
-    Full(usize, Signers),
 }
+
+// What became of a vote or a timeout. Where it is counted and its tally is short of the quorum, there is
+// nothing more.
+pub type Added = Result<Option<Quorum>, AddError>;
 
 // ---- a tally and its author
 
@@ -115,7 +122,7 @@ fn add<K: Key>(table: &mut [u64], key: K, place: Place, stake: Stake, need: Stak
 {
     match tally(table, key) {
         Some(i) => append_at(table, i, key, place, stake, need),
-        None => Added::NoRoom,
+        None => Err(AddError::NoRoom),
     }
 }
 

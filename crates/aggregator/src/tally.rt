@@ -8,7 +8,7 @@ ghost use Rattle.aggregator.specs.Tallies.{vote_tallies, timeout_tallies};
 ghost use Rattle.aggregator.specs.Keys.{Keyed, vote-keyed, timeout-keyed};
 ghost use Rattle.std.proofs.Common.{arith};
 
-use crate::tallies::{Added, TIMEOUT_TALLIES, TIMEOUT_WIDTH, VOTE_TALLIES, VOTE_WIDTH, clear};
+use crate::tallies::{AddError, Added, Quorum, TIMEOUT_TALLIES, TIMEOUT_WIDTH, VOTE_TALLIES, VOTE_WIDTH, clear};
 use certificates::config::MEMBERS_MAX;
 use certificates::numbers::{Hash, Place, Round, Signers, Stake};
 
@@ -199,7 +199,7 @@ pub(crate) fn append<K: Key>(
     let names = t[NAMES];
     // Ensure it is the first time this authority votes.
     if (names >> place.0) % 2 == 1 {
-        return Added::Used;
+        return Err(AddError::Used);
     }
     let signers = names | (1 << place.0);
     let weight = t[WEIGHT] + (stake.0 as u64);
@@ -207,9 +207,12 @@ pub(crate) fn append<K: Key>(
     if weight < (need.0 as u64) {
         t[WEIGHT] = weight;
         key.mark(t, place);
-        return Added::More;
+        return Ok(None);
     }
     t[WEIGHT] = 0; // Ensures QC is only made once.
     key.mark(t, place);
-    Added::Full(i, Signers(signers))
+    Ok(Some(Quorum {
+        row: i,
+        signers: Signers(signers),
+    }))
 }

@@ -11,14 +11,15 @@ use mathlib.Core.Logic.{◌≢◌, ◌⊎◌, inl, inr}
 use mathlib.Core.Path.{◌≡◌, refl}
 use borrow.Author.Tests.{ne_eqb, lt-ltb}
 use lib.Dec.{eqb}
+use Rattle.std.specs.Prelude.{None, Some, Ok, Err}
+use Rattle.aggregator.specs.Tally.{Added}
+use Rattle.aggregator.specs.declared.tallies.AddError.TheVariants.{NoRoom, Used}
 use Rattle.certificates.specs.Config.{stake_of, quorum_of}
 use Rattle.certificates.specs.Messages.{embedded_check, tc_check}
 use Rattle.certificates.specs.Error.{done, round_too_high, authority_reuse, qc_requires_quorum, tc_requires_quorum, tallies_full, number_of}
 use Rattle.trace.specs.declared.events.Timeout.{Timeout}
 use Rattle.certificates.specs.Numbers.{round_max}
 use Rattle.trace.specs.Layout.{timeout_qc, tc_body, qc_part, tc_part}
-use Rattle.aggregator.specs.declared.tallies.Added.{Added}
-use Rattle.aggregator.specs.declared.tallies.Added.TheVariants.{NoRoom, Used, More, Full}
 use Rattle.aggregator.specs.Tallies.{timeout_added, timeouts_after}
 use Rattle.moves.specs.State.{State}
 use Rattle.moves.specs.Outcome.{Step, Outcome, quiet, refused}
@@ -43,10 +44,10 @@ Late n = (n ≡ done) ⊎ ((n ≡ authority_reuse) ⊎ (n ≡ tallies_full))
 
 after-late : (m : List ℕ) (own : ℕ) (s : State) (round : ℕ) (timeouts : List ℕ) (a : Added) → Late (after_timeout m own s round timeouts a).answer
 unfolding Late
-after-late m own s round timeouts NoRoom = inr (inr refl)
-after-late m own s round timeouts Used = inr (inl refl)
-after-late m own s round timeouts More = inl refl
-after-late m own s round timeouts (Full i names) = inl refl
+after-late m own s round timeouts (Err NoRoom) = inr (inr refl)
+after-late m own s round timeouts (Err Used) = inr (inl refl)
+after-late m own s round timeouts (Ok None) = inl refl
+after-late m own s round timeouts (Ok (Some q)) = inl refl
 
 tallied-late : (m : List ℕ) (own need : ℕ) (s : State) (round p stake high : ℕ) → Late (timeout_tallied m own need s round p stake high).answer
 tallied-late m own need s round p stake high =

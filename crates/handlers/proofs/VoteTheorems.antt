@@ -14,7 +14,9 @@ use native.Mathlib.Omega.{arith}
 use borrow.Author.Tests.{eq-eqb, ne_eqb, eqb-true, eqb-false, ltb-true, leb-true}
 use lib.Dec.{ltb, leb, eqb}
 use lib.ListN.{length}
-use Rattle.std.specs.Prelude.{Ok, Err}
+use Rattle.aggregator.specs.Tally.{Added}
+use Rattle.aggregator.specs.declared.tallies.AddError.TheVariants.{NoRoom, Used}
+use Rattle.std.specs.Prelude.{Ok, Err, None, Some}
 use Rattle.certificates.specs.declared.numbers.Hash.{Hash}
 use Rattle.certificates.specs.Config.{stake_of, quorum_of}
 use Rattle.certificates.specs.Leader.{leader_of}
@@ -25,8 +27,6 @@ use Rattle.certificates.specs.Error.{author_number, unknown_authority, authority
 use Rattle.trace.specs.declared.events.Vote.{Vote}
 use Rattle.trace.specs.declared.events.Block.{Block}
 use Rattle.outputs.specs.Records.{vote}
-use Rattle.aggregator.specs.declared.tallies.Added.{Added}
-use Rattle.aggregator.specs.declared.tallies.Added.TheVariants.{NoRoom, Used, More, Full}
 use Rattle.aggregator.specs.Tallies.{votes_length, timeouts_length, vote_added, votes_after}
 use Rattle.moves.specs.declared.state.Core.{Core}
 use Rattle.moves.specs.State.{State, with_core, with_voted}
@@ -135,10 +135,10 @@ module _ (total : ℕ) (m : List ℕ) (own : ℕ) (low : quorum_of m ≤ suc tot
 
 from-added : (m : List ℕ) (own : ℕ) (s : State) (hash : Hash) (round : ℕ) (votes : List ℕ) (a : Added) → ((after_vote m own s hash round votes a).answer ≡ 0 → ⊥)
     → (after_vote m own s hash round votes a).left ≡ quiet s
-from-added m own s hash round votes NoRoom h = refl
-from-added m own s hash round votes Used h = refl
-from-added m own s hash round votes More h = absurd (h refl)
-from-added m own s hash round votes (Full i signers) h = absurd (h refl)
+from-added m own s hash round votes (Err NoRoom) h = refl
+from-added m own s hash round votes (Err Used) h = refl
+from-added m own s hash round votes (Ok None) h = absurd (h refl)
+from-added m own s hash round votes (Ok (Some q)) h = absurd (h refl)
 
 from-checked : (b : Bool) (n : ℕ) (s : State) (o : Outcome) → ((o.answer ≡ 0 → ⊥) → o.left ≡ quiet s) → ((cond b o (refused n s)).answer ≡ 0 → ⊥)
     → (cond b o (refused n s)).left ≡ quiet s
@@ -173,10 +173,10 @@ module _ (m : List ℕ) (own : ℕ) where
       rw (vote-tallied-is m own need s hash round p stake) (cases (votes_after s.votes round hash p stake need) (vote_added s.votes round hash p stake need))
     where
       cases : (v : List ℕ) (a : Added) → Votes (after_vote m own s hash round v a).answer
-      cases v NoRoom = refl
-      cases v Used = refl
-      cases v More = refl
-      cases v (Full i signers) = refl
+      cases v (Err NoRoom) = refl
+      cases v (Err Used) = refl
+      cases v (Ok None) = refl
+      cases v (Ok (Some q)) = refl
 
   pub author-votes : Votes (author_number (author_check m own 1))
   unfolding member author_check

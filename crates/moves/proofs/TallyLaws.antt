@@ -9,11 +9,11 @@ use mathlib.Core.List.{List}
 use mathlib.Core.Path.{◌≡◌, refl, sym, ◌∙◌}
 use native.Mathlib.Nat.{le_refl}
 use lib.ListN.{length}
+use Rattle.std.specs.Prelude.{None, Some, Ok, Err}
+use Rattle.aggregator.specs.declared.tallies.AddError.TheVariants.{NoRoom, Used}
 use Rattle.certificates.specs.declared.numbers.Hash.{Hash}
 use Rattle.certificates.specs.declared.numbers.Signers.{Signers}
-use Rattle.aggregator.specs.declared.tallies.Added.{Added}
-use Rattle.aggregator.specs.declared.tallies.Added.TheVariants.{NoRoom, Used, More, Full}
-use Rattle.aggregator.specs.Tally.{AddedAs}
+use Rattle.aggregator.specs.Tally.{AddedAs, Added, quorum_at}
 use Rattle.aggregator.specs.Tallies.{votes_length, timeouts_length, highs_at, vote_added, votes_after, timeout_added, timeouts_after}
 use Rattle.aggregator.proofs.Laws.{vote-no-room, vote-used, votes-after-length, votes-after-light, timeout-no-room, timeout-used, timeouts-after-length, timeouts-after-light}
 use Rattle.moves.specs.declared.state.Core.{Core}
@@ -38,9 +38,9 @@ timeout-tallied-is m own need s round p stake high = refl
 
 -- ---- short of the quorum
 
--- any variant but `Full`, as a test in code tells it
+-- any variant but `quorum_at`, as a test in code tells it
 abbrev pub Short : Added → Type 0
-Short a = (i : ℕ) (signers : Signers) → a ≡ Full i signers → ⊥
+Short a = (i : ℕ) (signers : Signers) → a ≡ quorum_at i signers → ⊥
 
 -- ---- a vote
 
@@ -50,16 +50,16 @@ module _ (m : List ℕ) (own need : ℕ) (core : Core) (votes timeouts out : Lis
   vote-counted = rw (k.answer, k.table) (vote-tallied-is m own need (whole core votes timeouts) hash round p stake)
 
   vote-stays : (b : Added) → a ≡ b → Short b → after_vote m own (whole core votes timeouts) hash round v b ≡ refused (added_number b) (whole core v timeouts)
-  vote-stays NoRoom e h = rw (vote-no-room votes round hash p stake need k e)
-  vote-stays Used e h = rw (vote-used votes round hash p stake need k e)
-  vote-stays More e h = refl
-  vote-stays (Full i signers) e h = absurd (h _ _ refl)
+  vote-stays (Err NoRoom) e h = rw (vote-no-room votes round hash p stake need k e)
+  vote-stays (Err Used) e h = rw (vote-used votes round hash p stake need k e)
+  vote-stays (Ok None) e h = refl
+  vote-stays (quorum_at i signers) e h = absurd (h _ _ refl)
 
   pub vote-tallied-short : {n : ℕ} → Short a → n ≡ added_number a
       → Reached certify_most (vote_tallied m own need (whole core votes timeouts) hash round p stake) out at (record { answer = n; core = core; at = at }) v timeouts out
   vote-tallied-short h e = rw (vote-counted, e, vote-stays a refl h) (reached-refused certify_most (added_number a) core v timeouts out at)
 
-  pub vote-tallied-full : {i : ℕ} {signers : Signers} {c : Core} {v' t' out' : List ℕ} {next : ℕ} → a ≡ Full i signers
+  pub vote-tallied-full : {i : ℕ} {signers : Signers} {c : Core} {v' t' out' : List ℕ} {next : ℕ} → a ≡ quorum_at i signers
       → Did certify_most (certified m own (whole core v timeouts) (qc_of hash round signers)) out at c v' t' out' next
       → Reached certify_most (vote_tallied m own need (whole core votes timeouts) hash round p stake) out at (record { answer = 0; core = c; at = next }) v' t' out'
   vote-tallied-full e d = rw (vote-counted, e) (reached-done 0 d)
@@ -72,16 +72,16 @@ module _ (m : List ℕ) (own need : ℕ) (core : Core) (votes timeouts out : Lis
   timeout-counted = rw (k.answer, k.table) (timeout-tallied-is m own need (whole core votes timeouts) round p stake high)
 
   timeout-stays : (b : Added) → a ≡ b → Short b → after_timeout m own (whole core votes timeouts) round t b ≡ refused (added_number b) (whole core votes t)
-  timeout-stays NoRoom e h = rw (timeout-no-room timeouts round p stake need high k e)
-  timeout-stays Used e h = rw (timeout-used timeouts round p stake need high k e)
-  timeout-stays More e h = refl
-  timeout-stays (Full i names) e h = absurd (h _ _ refl)
+  timeout-stays (Err NoRoom) e h = rw (timeout-no-room timeouts round p stake need high k e)
+  timeout-stays (Err Used) e h = rw (timeout-used timeouts round p stake need high k e)
+  timeout-stays (Ok None) e h = refl
+  timeout-stays (quorum_at i names) e h = absurd (h _ _ refl)
 
   pub timeout-tallied-short : {n : ℕ} → Short a → n ≡ added_number a
       → Reached time_out_most (timeout_tallied m own need (whole core votes timeouts) round p stake high) out at (record { answer = n; core = core; at = at }) votes t out
   timeout-tallied-short h e = rw (timeout-counted, e, timeout-stays a refl h) (reached-refused time_out_most (added_number a) core votes t out at)
 
-  pub timeout-tallied-full : {i : ℕ} {names : Signers} {c : Core} {v' t' out' : List ℕ} {next : ℕ} → a ≡ Full i names
+  pub timeout-tallied-full : {i : ℕ} {names : Signers} {c : Core} {v' t' out' : List ℕ} {next : ℕ} → a ≡ quorum_at i names
       → Did time_out_most (timed_out m own (whole core votes t) round names.0 (highs_at t i)) out at c v' t' out' next
       → Reached time_out_most (timeout_tallied m own need (whole core votes timeouts) round p stake high) out at (record { answer = 0; core = c; at = next }) v' t' out'
   timeout-tallied-full e d = rw (timeout-counted, e) (reached-done 0 d)
@@ -109,10 +109,10 @@ module _ (total : ℕ) (m : List ℕ) (own need : ℕ) (low : need ≤ suc total
           }
 
       cases : (a : Added) → Keeps total s (after_vote m own s hash round (votes_after s.votes round hash p stake need) a).left.state
-      cases NoRoom = keeps-none total s
-      cases Used = keeps-none total s
-      cases More = counted
-      cases (Full i signers) = keeps_then counted (certified-keeps total (with_votes s (votes_after s.votes round hash p stake need)) same wide m own (qc_of hash round signers))
+      cases (Err NoRoom) = keeps-none total s
+      cases (Err Used) = keeps-none total s
+      cases (Ok None) = counted
+      cases (Ok (Some q)) = keeps_then counted (certified-keeps total (with_votes s (votes_after s.votes round hash p stake need)) same wide m own (qc_of hash round q.signers))
 
   pub timeout-tallied-keeps : (round p stake high : ℕ) → Keeps total s (timeout_tallied m own need s round p stake high).left.state
   timeout-tallied-keeps round p stake high = rw (timeout-tallied-is m own need s round p stake high) (cases (timeout_added s.timeouts round p stake need))
@@ -134,10 +134,10 @@ module _ (total : ℕ) (m : List ℕ) (own need : ℕ) (low : need ≤ suc total
           }
 
       cases : (a : Added) → Keeps total s (after_timeout m own s round (timeouts_after s.timeouts round p stake need high) a).left.state
-      cases NoRoom = keeps-none total s
-      cases Used = keeps-none total s
-      cases More = counted
-      cases (Full i names) =
+      cases (Err NoRoom) = keeps-none total s
+      cases (Err Used) = keeps-none total s
+      cases (Ok None) = counted
+      cases (Ok (Some q)) =
           keeps_then counted
           (timed-out-keeps total (with_timeouts s (timeouts_after s.timeouts round p stake need high)) long same m own round names.0
           (highs_at (timeouts_after s.timeouts round p stake need high) i))

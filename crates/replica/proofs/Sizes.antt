@@ -9,7 +9,9 @@ use native.Mathlib.Omega.{arith}
 use borrow.Author.Tests.{eqb-true, eqb-false}
 use lib.Dec.{ltb, eqb, lit≤}
 use lib.ListN.{length, length-append, drop}
-use Rattle.std.specs.Prelude.{Option, None, Some, Result}
+use Rattle.aggregator.specs.Tally.{Added}
+use Rattle.aggregator.specs.declared.tallies.AddError.TheVariants.{NoRoom, Used}
+use Rattle.std.specs.Prelude.{Option, None, Some, Result, Ok, Err}
 use Rattle.certificates.specs.Error.{wait_parent}
 use Rattle.certificates.specs.Config.{quorum_of, stake_of}
 use Rattle.certificates.specs.Start.{setup_at}
@@ -34,8 +36,6 @@ use Rattle.outputs.specs.Records.{Rec, vote, timeout, tc, make, make_with, sync,
 use Rattle.outputs.proofs.Wrote.{all_none, all_one, all_append, length-each}
 use Rattle.outputs.proofs.Sizes.{length-enc, size-most}
 use Rattle.aggregator.specs.Tallies.{vote_added, votes_after, timeout_added, timeouts_after}
-use Rattle.aggregator.specs.declared.tallies.Added.{Added}
-use Rattle.aggregator.specs.declared.tallies.Added.TheVariants.{NoRoom, Used, More, Full}
 use Rattle.moves.specs.declared.state.Core.{Core}
 use Rattle.moves.specs.State.{State}
 use Rattle.moves.specs.Moves.{advanced, taken_qc, leads, make_of, make_with_of, certified, tc_outs, timed_out, advance_most, certify_most, tc_outs_most, time_out_most}
@@ -114,10 +114,10 @@ module _ (m : List ℕ) (own : ℕ) where
       (tc-outs-size (advanced s round).state.core round names highs)
 
   after-vote-size : (s : State) (hash : Hash) (round : ℕ) (votes : List ℕ) (a : Added) → size (after_vote m own s hash round votes a).left.outs ≤ certify_most
-  after-vote-size s hash round votes NoRoom = size_none certify_most
-  after-vote-size s hash round votes Used = size_none certify_most
-  after-vote-size s hash round votes More = size_none certify_most
-  after-vote-size s hash round votes (Full i signers) = certified-size _ _
+  after-vote-size s hash round votes (Err NoRoom) = size_none certify_most
+  after-vote-size s hash round votes (Err Used) = size_none certify_most
+  after-vote-size s hash round votes (Ok None) = size_none certify_most
+  after-vote-size s hash round votes (Ok (Some q)) = certified-size _ _
 
   vote-tallied-size : (need : ℕ) (s : State) (hash : Hash) (round p stake : ℕ) → size (vote_tallied m own need s hash round p stake).left.outs ≤ certify_most
   unfolding vote_tallied
@@ -125,10 +125,10 @@ module _ (m : List ℕ) (own : ℕ) where
       after-vote-size s hash round (votes_after s.votes round hash p stake need) (vote_added s.votes round hash p stake need)
 
   after-timeout-size : (s : State) (round : ℕ) (timeouts : List ℕ) (a : Added) → size (after_timeout m own s round timeouts a).left.outs ≤ time_out_most
-  after-timeout-size s round timeouts NoRoom = size_none time_out_most
-  after-timeout-size s round timeouts Used = size_none time_out_most
-  after-timeout-size s round timeouts More = size_none time_out_most
-  after-timeout-size s round timeouts (Full i names) = timed-out-size _ round _ _
+  after-timeout-size s round timeouts (Err NoRoom) = size_none time_out_most
+  after-timeout-size s round timeouts (Err Used) = size_none time_out_most
+  after-timeout-size s round timeouts (Ok None) = size_none time_out_most
+  after-timeout-size s round timeouts (Ok (Some q)) = timed-out-size _ round _ _
 
   timeout-tallied-size : (need : ℕ) (s : State) (round p stake high : ℕ) → size (timeout_tallied m own need s round p stake high).left.outs ≤ time_out_most
   unfolding timeout_tallied

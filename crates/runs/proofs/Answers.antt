@@ -12,7 +12,9 @@ use native.Mathlib.Omega.{arith}
 use borrow.Author.Tests.{eqb-true, eqb-false}
 use lib.Dec.{eqb, ltb}
 use lib.ListN.{length}
-use Rattle.std.specs.Prelude.{Some, Ok, Err}
+use Rattle.aggregator.specs.Tally.{Added}
+use Rattle.aggregator.specs.declared.tallies.AddError.TheVariants.{NoRoom, Used}
+use Rattle.std.specs.Prelude.{Some, Ok, Err, None}
 use Rattle.std.specs.Prelude as std
 use Rattle.certificates.specs.declared.numbers.Round.{Round}
 use Rattle.certificates.specs.declared.numbers.Stake.{Stake}
@@ -33,8 +35,6 @@ use Rattle.trace.specs.Form.{form_of, any_above}
 use Rattle.trace.specs.Fields.{vote_of, timeout_of, block_of}
 use Rattle.trace.specs.Layout.{signers_max, timeout_qc, tc_body, qc_part, tc_part, tc_round, payload_of}
 use Rattle.trace.specs.Limits.{counts_of, rounds_of, empty_tc as has_empty_tc, limit_of}
-use Rattle.aggregator.specs.declared.tallies.Added.{Added}
-use Rattle.aggregator.specs.declared.tallies.Added.TheVariants.{NoRoom, Used, More, Full}
 use Rattle.aggregator.specs.Tallies.{timeout_added, timeouts_after}
 use Rattle.synchronizer.proofs.Lookups.{Stopped, settled-stopped}
 use Rattle.moves.specs.State.{State}
@@ -136,10 +136,10 @@ module _ (P : ℕ → Type 0) (done : P 0) (reuse : P authority_reuse) (full : P
       rw (timeout-tallied-is m own need s round p stake high) (cases (timeouts_after s.timeouts round p stake need high) (timeout_added s.timeouts round p stake need))
     where
       cases : (t : List ℕ) (a : Added) → P (after_timeout m own s round t a).answer
-      cases t NoRoom = full
-      cases t Used = reuse
-      cases t More = done
-      cases t (Full i names) = done
+      cases t (Err NoRoom) = full
+      cases t (Err Used) = reuse
+      cases t (Ok None) = done
+      cases t (Ok (Some q)) = done
 
 -- ---- 2 and 3
 

@@ -29,8 +29,7 @@ use Rattle.certificates.proofs.ConfigLaws.{stake-member, within}
 use Rattle.certificates.proofs.SignersLaws.{signer-none}
 use Rattle.certificates.proofs.StartLaws as start
 use Rattle.outputs.specs.Records.{Rec}
-use Rattle.aggregator.specs.declared.tallies.Added.TheVariants.{Full}
-use Rattle.aggregator.specs.Tally.{vote_width, timeout_width}
+use Rattle.aggregator.specs.Tally.{vote_width, timeout_width, quorum_at}
 use Rattle.aggregator.specs.Tallies.{vote_tallies, timeout_tallies, votes_length, timeouts_length, heavy, vote_added, timeout_added}
 use Rattle.aggregator.proofs.TableLaws.{Each}
 use Rattle.aggregator.proofs.Laws.{light-heavy}
@@ -186,11 +185,11 @@ module _ (r : Course) where
 
 module _ (m : List ℕ) {g : Signatures} {s : State} (k : Kept m g s) (p : ℕ) (who : Known m p) where
   -- A QC that a tally of votes makes, laid out as a certificate with the result yes, passes the check.
-  pub made-qc-accepted : (hash : Hash) (round : ℕ) {i : ℕ} {q : Signers} → vote_added s.votes round hash p (stake_of m p) (quorum_of m) ≡ Full i q
+  pub made-qc-accepted : (hash : Hash) (round : ℕ) {i : ℕ} {q : Signers} → vote_added s.votes round hash p (stake_of m p) (quorum_of m) ≡ quorum_at i q
       → qc_check m (quorum_of m) (qc_bytes (qc_of hash round q)) ≡ Ok q
   made-qc-accepted hash round {q = q} e = quorate-qc m (qc_of hash round q) (vote-quorate m g k p who hash round e)
 
   -- A TC that a tally of timeouts makes, likewise, with the high rounds of its row.
-  pub made-tc-accepted : (round high : ℕ) (highs : List ℕ) {i : ℕ} {q : Signers} → timeout_added s.timeouts round p (stake_of m p) (quorum_of m) ≡ Full i q
+  pub made-tc-accepted : (round high : ℕ) (highs : List ℕ) {i : ℕ} {q : Signers} → timeout_added s.timeouts round p (stake_of m p) (quorum_of m) ≡ quorum_at i q
       → GoodTC m round q.0 highs
   made-tc-accepted round high highs {q = q} e = quorate-tc m round q highs (timeout-quorate m g k p who round high e)

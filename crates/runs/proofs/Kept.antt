@@ -23,6 +23,8 @@ use native.Mathlib.Omega.{arith}
 use borrow.Author.Tests.{ltb-true, ltb-false}
 use lib.Dec.{ltb}
 use lib.ListN.{length, get_or, replicate, length-replicate}
+use Rattle.std.specs.Prelude.{None, Some, Ok, Err}
+use Rattle.aggregator.specs.declared.tallies.AddError.TheVariants.{NoRoom, Used}
 use Rattle.certificates.specs.declared.numbers.Hash.{Hash}
 use Rattle.certificates.specs.declared.numbers.Signers.{Signers}
 use Rattle.certificates.specs.declared.messages.QC.{QC}
@@ -32,10 +34,8 @@ use Rattle.certificates.specs.Signers.{is_in, words}
 use Rattle.certificates.specs.Messages.{is_genesis}
 use Rattle.certificates.proofs.Check.{Known}
 use Rattle.outputs.specs.Records.{Rec, vote, timeout, tc, make, make_with, commit, sync, clean_proposer, clean_mempool, timer_reset, answer}
-use Rattle.aggregator.specs.declared.tallies.Added.{Added}
-use Rattle.aggregator.specs.declared.tallies.Added.TheVariants.{NoRoom, Used, More, Full}
 use Rattle.aggregator.specs.Rows.{row}
-use Rattle.aggregator.specs.Tally.{fields, vote_width, timeout_width, round_of, hash_of, new_vote, new_timeout, signers}
+use Rattle.aggregator.specs.Tally.{fields, vote_width, timeout_width, round_of, hash_of, new_vote, new_timeout, signers, Added, quorum_at}
 use Rattle.aggregator.specs.Tallies.{vote_tallies, timeout_tallies, votes_length, timeouts_length, vote_added, votes_after, timeout_added, timeouts_after, highs_at}
 use Rattle.aggregator.proofs.TallyLaws.{vote-kind, timeout-kind, author-round, author-hash, author-high, author-highs, vote-is, timeout-is}
 use Rattle.aggregator.proofs.TableLaws.{Each, each-dropped, each-zeros}
@@ -298,12 +298,12 @@ module _ (m : List ℕ) (g : Signatures) where
 
   module _ {s : State} (k : Kept s) (p : ℕ) (who : Known m p) where
     -- a QC that a tally of votes makes: members with stake, and a quorum
-    pub vote-quorate : (hash : Hash) (round : ℕ) {i : ℕ} {q : Signers} → vote_added s.votes round hash p (stake_of m p) (quorum_of m) ≡ Full i q → Quorate m q
+    pub vote-quorate : (hash : Hash) (round : ℕ) {i : ℕ} {q : Signers} → vote_added s.votes round hash p (stake_of m p) (quorum_of m) ≡ quorum_at i q → Quorate m q
     vote-quorate hash round e =
         filled-quorate m (VotesIn g) (vote-kind round hash) p who (vote-full s.votes round hash p (stake_of m p) (quorum_of m) k.long e) k.votes
 
     -- a TC that a tally of timeouts makes, likewise
-    pub timeout-quorate : (round high : ℕ) {i : ℕ} {q : Signers} → timeout_added s.timeouts round p (stake_of m p) (quorum_of m) ≡ Full i q → Quorate m q
+    pub timeout-quorate : (round high : ℕ) {i : ℕ} {q : Signers} → timeout_added s.timeouts round p (stake_of m p) (quorum_of m) ≡ quorum_at i q → Quorate m q
     timeout-quorate round high e =
         filled-quorate m (ExpiresIn g) (timeout-kind round p high) p who (timeout-full s.timeouts round p (stake_of m p) (quorum_of m) high k.wide e) k.timeouts
 
@@ -332,7 +332,7 @@ module _ (m : List ℕ) (g : Signatures) where
           }
 
       -- what a tally of votes gives out backs its hash and round
-      vote-backed : {i : ℕ} {q : Signers} → vote_added s.votes round hash p (stake_of m p) (quorum_of m) ≡ Full i q → Backed (qc_of hash round q)
+      vote-backed : {i : ℕ} {q : Signers} → vote_added s.votes round hash p (stake_of m p) (quorum_of m) ≡ quorum_at i q → Backed (qc_of hash round q)
       vote-backed {i} e =
           let f = vote-full s.votes round hash p (stake_of m p) (quorum_of m) k.long e in
           let is = vote-is round hash (row vote_width votes-left i) (counted-passes (vote-kind round hash) f.counted) in
@@ -342,10 +342,10 @@ module _ (m : List ℕ) (g : Signatures) where
       good-vote own = rw (vote-tallied-is m own (quorum_of m) s hash round p (stake_of m p)) (cases (vote_added s.votes round hash p (stake_of m p) (quorum_of m)) refl)
         where
           cases : (a : Added) → vote_added s.votes round hash p (stake_of m p) (quorum_of m) ≡ a → Good (after_vote m own s hash round votes-left a).left
-          cases NoRoom e = good-quiet k
-          cases Used e = good-quiet k
-          cases More e = good-quiet kept-votes
-          cases (Full i names) e = good-certified own kept-votes (qc_of hash round names) (λ h. vote-backed e)
+          cases (Err NoRoom) e = good-quiet k
+          cases (Err Used) e = good-quiet k
+          cases (Ok None) e = good-quiet kept-votes
+          cases (Ok (Some q)) e = good-certified own kept-votes (qc_of hash round q.signers) (λ h. vote-backed e)
 
     module _ (round high : ℕ) (signed : g.expires p round high) where
       abbrev timeouts-left : List ℕ
@@ -371,7 +371,7 @@ module _ (m : List ℕ) (g : Signatures) where
           }
 
       -- what a tally of timeouts gives out closes its round, with the high rounds of its row
-      timeout-closes : {i : ℕ} {q : Signers} → timeout_added s.timeouts round p (stake_of m p) (quorum_of m) ≡ Full i q → Closes round q (highs_at timeouts-left i)
+      timeout-closes : {i : ℕ} {q : Signers} → timeout_added s.timeouts round p (stake_of m p) (quorum_of m) ≡ quorum_at i q → Closes round q (highs_at timeouts-left i)
       timeout-closes {i} e =
           let f = timeout-full s.timeouts round p (stake_of m p) (quorum_of m) high k.wide e in
           let is = timeout-is round (row timeout_width timeouts-left i) (counted-passes (timeout-kind round p high) f.counted) in
@@ -384,7 +384,7 @@ module _ (m : List ℕ) (g : Signatures) where
       good-timeout own = rw (timeout-tallied-is m own (quorum_of m) s round p (stake_of m p) high) (cases (timeout_added s.timeouts round p (stake_of m p) (quorum_of m)) refl)
         where
           cases : (a : Added) → timeout_added s.timeouts round p (stake_of m p) (quorum_of m) ≡ a → Good (after_timeout m own s round timeouts-left a).left
-          cases NoRoom e = good-quiet k
-          cases Used e = good-quiet k
-          cases More e = good-quiet kept-timeouts
-          cases (Full i names) e = good-timed-out own kept-timeouts round names (highs_at timeouts-left i) (timeout-closes e)
+          cases (Err NoRoom) e = good-quiet k
+          cases (Err Used) e = good-quiet k
+          cases (Ok None) e = good-quiet kept-timeouts
+          cases (Ok (Some q)) e = good-timed-out own kept-timeouts round q.signers (highs_at timeouts-left q.row) (timeout-closes e)

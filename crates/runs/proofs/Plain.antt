@@ -13,6 +13,9 @@ use mathlib.Core.Path.{◌≡◌, refl}
 use native.Mathlib.Omega.{arith}
 use borrow.Author.Tests.{ltb-true, ltb-false}
 use lib.Dec.{ltb, eqb}
+use Rattle.std.specs.Prelude.{None, Some, Ok, Err}
+use Rattle.aggregator.specs.Tally.{Added}
+use Rattle.aggregator.specs.declared.tallies.AddError.TheVariants.{NoRoom, Used}
 use Rattle.certificates.specs.declared.numbers.Hash.{Hash}
 use Rattle.certificates.specs.declared.numbers.Signers.{Signers}
 use Rattle.certificates.specs.declared.messages.QC.{QC}
@@ -24,8 +27,6 @@ use Rattle.trace.specs.declared.events.Timeout.{Timeout}
 use Rattle.trace.specs.declared.events.Block.{Block}
 use Rattle.trace.specs.Layout.{timeout_qc, tc_body, qc_part, tc_part, highs_of}
 use Rattle.outputs.specs.Records.{Rec, timer_reset, tc, make, make_with}
-use Rattle.aggregator.specs.declared.tallies.Added.{Added}
-use Rattle.aggregator.specs.declared.tallies.Added.TheVariants.{NoRoom, Used, More, Full}
 use Rattle.aggregator.specs.Tallies.{highs_at, vote_added, votes_after, timeout_added, timeouts_after}
 use Rattle.moves.specs.declared.state.Core.{Core}
 use Rattle.moves.specs.State.{State, with_votes, with_timeouts}
@@ -168,20 +169,20 @@ plain-vote-tallied m own need s hash round p stake =
     rw (vote-tallied-is m own need s hash round p stake) (cases (votes_after s.votes round hash p stake need) (vote_added s.votes round hash p stake need))
   where
     cases : (v : List ℕ) (a : Added) → Plain s.core (after_vote m own s hash round v a).left
-    cases v NoRoom = plain_quiet s
-    cases v Used = plain_quiet s
-    cases v More = plain_quiet (with_votes s v)
-    cases v (Full i signers) = plain-certified m own (with_votes s v) (qc_of hash round signers)
+    cases v (Err NoRoom) = plain_quiet s
+    cases v (Err Used) = plain_quiet s
+    cases v (Ok None) = plain_quiet (with_votes s v)
+    cases v (Ok (Some q)) = plain-certified m own (with_votes s v) (qc_of hash round q.signers)
 
 pub plain-timeout-tallied : (m : List ℕ) (own need : ℕ) (s : State) (round p stake high : ℕ) → Plain s.core (timeout_tallied m own need s round p stake high).left
 plain-timeout-tallied m own need s round p stake high =
     rw (timeout-tallied-is m own need s round p stake high) (cases (timeouts_after s.timeouts round p stake need high) (timeout_added s.timeouts round p stake need))
   where
     cases : (t : List ℕ) (a : Added) → Plain s.core (after_timeout m own s round t a).left
-    cases t NoRoom = plain_quiet s
-    cases t Used = plain_quiet s
-    cases t More = plain_quiet (with_timeouts s t)
-    cases t (Full i names) = plain-timed-out m own (with_timeouts s t) round names.0 (highs_at t i)
+    cases t (Err NoRoom) = plain_quiet s
+    cases t (Err Used) = plain_quiet s
+    cases t (Ok None) = plain_quiet (with_timeouts s t)
+    cases t (Ok (Some q)) = plain-timed-out m own (with_timeouts s t) round q.signers.0 (highs_at t q.row)
 
 -- ---- the handlers
 
