@@ -11,7 +11,9 @@ use Rattle.certificates.specs.declared.error.CertificateError.{CertificateError}
 use Rattle.certificates.specs.declared.error.CertificateError.TheVariants.{AuthorityReuse, UnknownAuthority, RequiresQuorum, InvalidSignature, Cut}
 use Rattle.certificates.specs.declared.error.AuthorError.{AuthorError}
 use Rattle.certificates.specs.declared.error.AuthorError.TheVariants as author
-use Rattle.certificates.specs.Error.{done, number_of, author_number, setup_number}
+use Rattle.certificates.specs.declared.error.Refusal.{Refusal}
+use Rattle.certificates.specs.declared.error.Refusal.TheVariants as refusal
+use Rattle.certificates.specs.Error.{done, code, number, number_of, author_number, setup_number}
 
 pub number_same : {r : ℕ} (c : Result Signers CertificateError) {d : Result Signers CertificateError} (quorum : ℕ) → r ≡ number_of c quorum → c ≡ d → r ≡ number_of d quorum
 number_same c quorum e f = e ∙ ap (λ (x : Result Signers CertificateError). number_of x quorum) f
@@ -38,3 +40,28 @@ number-valid (Err author.InvalidSignature) e = absurd (omega arith)
 pub number-total : (s : Option Stake) → setup_number s ≡ done → (t : Stake) × (s ≡ Some t)
 number-total None e = absurd (omega arith)
 number-total (Some t) e = (t, refl)
+
+-- a refusal is not 0
+pub code-some : (r : Refusal) → code r ≢ done
+code-some refusal.Stale e = absurd (omega arith)
+code-some refusal.WaitParent e = absurd (omega arith)
+code-some refusal.WaitPayload e = absurd (omega arith)
+code-some refusal.BadRecord e = absurd (omega arith)
+code-some refusal.BadSetup e = absurd (omega arith)
+code-some refusal.NoRoom e = absurd (omega arith)
+code-some refusal.RoundTooHigh e = absurd (omega arith)
+code-some refusal.ListTooLong e = absurd (omega arith)
+code-some refusal.WrongLeader e = absurd (omega arith)
+code-some refusal.UnknownAuthority e = absurd (omega arith)
+code-some refusal.InvalidSignature e = absurd (omega arith)
+code-some refusal.AuthorityReuse e = absurd (omega arith)
+code-some refusal.QcRequiresQuorum e = absurd (omega arith)
+code-some refusal.TcRequiresQuorum e = absurd (omega arith)
+code-some refusal.InvalidPayload e = absurd (omega arith)
+code-some refusal.TableFull e = absurd (omega arith)
+code-some refusal.TalliesFull e = absurd (omega arith)
+code-some refusal.AncestorAbsent e = absurd (omega arith)
+code-some refusal.RoundNotBelow e = absurd (omega arith)
+code-some refusal.EmptyTc e = absurd (omega arith)
+code-some refusal.NotStarted e = absurd (omega arith)
+code-some refusal.StartedAgain e = absurd (omega arith)

@@ -13,6 +13,10 @@ use mathlib.Core.List.{List}
 use mathlib.Core.Path.{◌≡◌, refl}
 use borrow.Author.Tests.{eq-eqb, ne_eqb}
 use lib.ListN.{length}
+use Rattle.std.specs.Prelude.{Result, Err}
+use Rattle.certificates.specs.declared.error.Refusal.{Refusal}
+use Rattle.certificates.specs.Error.{code, number}
+use Rattle.certificates.proofs.ErrorLaws.{code-some}
 use Rattle.outputs.specs.Records.{Rec}
 use Rattle.outputs.specs.Put.{Wrote}
 use Rattle.outputs.proofs.Wrote.{wrote_none, wrote_then, wrote-more, wrote-length}
@@ -45,13 +49,13 @@ did-length d = wrote-length d.bytes
 
 -- ---- outcomes
 
-pub reached-done : {k at next : ℕ} {a : Step} {before last v t : List ℕ} {c : Core} (n : ℕ) → Did k a before at c v t last next
-    → Reached k (done n a) before at (record { answer = n; core = c; at = next }) v t last
-reached-done n d = record { answer = refl; did = d }
+pub reached-done : {k at next : ℕ} {a : Step} {before last v t : List ℕ} {c : Core} (x : Result Unit Refusal) → Did k a before at c v t last next
+    → Reached k (done (number x) a) before at (record { answer = x; core = c; at = next }) v t last
+reached-done x d = record { answer = refl; did = d }
 
-pub reached-refused : (k n : ℕ) (core : Core) (votes timeouts out : List ℕ) (at : ℕ)
-    → Reached k (refused n (whole core votes timeouts)) out at (record { answer = n; core = core; at = at }) votes timeouts out
-reached-refused k n core votes timeouts out at = reached-done n (did-quiet k core votes timeouts out at)
+pub reached-refused : (k : ℕ) (x : Result Unit Refusal) (core : Core) (votes timeouts out : List ℕ) (at : ℕ)
+    → Reached k (refused (number x) (whole core votes timeouts)) out at (record { answer = x; core = core; at = at }) votes timeouts out
+reached-refused k x core votes timeouts out at = reached-done x (did-quiet k core votes timeouts out at)
 
 -- a part was done, and then an outcome was reached from the state that it left
 pub reached-after : {k l at mid : ℕ} {a : Step} (f : State → Outcome) {before between last v t v' t' : List ℕ} {c : Core} {r : Ran}
@@ -60,9 +64,9 @@ reached-after f p q =
     let r = rw p.state at q in
     record { answer = r.answer; did = record { state = r.did.state; bytes = wrote_then p.bytes r.did.bytes } }
 
-pub reached-checked-refused : (k n : ℕ) (core : Core) (votes timeouts out : List ℕ) (at : ℕ) (o : Outcome) → (n ≡ 0 → ⊥)
-    → Reached k (checked n (whole core votes timeouts) o) out at (record { answer = n; core = core; at = at }) votes timeouts out
-reached-checked-refused k n core votes timeouts out at o h = rw (ne_eqb n 0 h) (reached-refused k n core votes timeouts out at)
+pub reached-checked-refused : (k : ℕ) (r : Refusal) (core : Core) (votes timeouts out : List ℕ) (at : ℕ) (o : Outcome)
+    → Reached k (checked (code r) (whole core votes timeouts) o) out at (record { answer = Err r; core = core; at = at }) votes timeouts out
+reached-checked-refused k r core votes timeouts out at o = rw (ne_eqb (code r) 0 (code-some r)) (reached-refused k (Err r) core votes timeouts out at)
 
 pub reached-checked-passed : {k at : ℕ} (n : ℕ) (s : State) {o : Outcome} {before last v t : List ℕ} {r : Ran} → n ≡ 0 → Reached k o before at r v t last
     → Reached k (checked n s o) before at r v t last

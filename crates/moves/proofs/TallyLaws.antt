@@ -9,6 +9,10 @@ use mathlib.Core.List.{List}
 use mathlib.Core.Path.{◌≡◌, refl, sym, ◌∙◌}
 use native.Mathlib.Nat.{le_refl}
 use lib.ListN.{length}
+use Rattle.std.specs.Prelude.{Result}
+use Rattle.aggregator.specs.declared.tallies.Quorum.{Quorum}
+use Rattle.certificates.specs.declared.error.Refusal.{Refusal}
+use Rattle.certificates.specs.Error.{number}
 use Rattle.std.specs.Prelude.{None, Some, Ok, Err}
 use Rattle.aggregator.specs.declared.tallies.AddError.TheVariants.{NoRoom, Used}
 use Rattle.certificates.specs.declared.numbers.Hash.{Hash}
@@ -38,9 +42,9 @@ timeout-tallied-is m own need s round p stake high = refl
 
 -- ---- short of the quorum
 
--- any variant but `quorum_at`, as a test in code tells it
+-- no quorum, as a test in code tells it
 abbrev pub Short : Added → Type 0
-Short a = (i : ℕ) (signers : Signers) → a ≡ quorum_at i signers → ⊥
+Short a = (q : Quorum) → a ≡ Ok (Some q) → ⊥
 
 -- ---- a vote
 
@@ -53,16 +57,16 @@ module _ (m : List ℕ) (own need : ℕ) (core : Core) (votes timeouts out : Lis
   vote-stays (Err NoRoom) e h = rw (vote-no-room votes round hash p stake need k e)
   vote-stays (Err Used) e h = rw (vote-used votes round hash p stake need k e)
   vote-stays (Ok None) e h = refl
-  vote-stays (quorum_at i signers) e h = absurd (h _ _ refl)
+  vote-stays (Ok (Some q)) e h = absurd (h _ refl)
 
-  pub vote-tallied-short : {n : ℕ} → Short a → n ≡ added_number a
-      → Reached certify_most (vote_tallied m own need (whole core votes timeouts) hash round p stake) out at (record { answer = n; core = core; at = at }) v timeouts out
-  vote-tallied-short h e = rw (vote-counted, e, vote-stays a refl h) (reached-refused certify_most (added_number a) core v timeouts out at)
+  pub vote-tallied-short : {x : Result Unit Refusal} → Short a → number x ≡ added_number a
+      → Reached certify_most (vote_tallied m own need (whole core votes timeouts) hash round p stake) out at (record { answer = x; core = core; at = at }) v timeouts out
+  vote-tallied-short {x} h e = rw (vote-counted, vote-stays a refl h, ← e) (reached-refused certify_most x core v timeouts out at)
 
-  pub vote-tallied-full : {i : ℕ} {signers : Signers} {c : Core} {v' t' out' : List ℕ} {next : ℕ} → a ≡ quorum_at i signers
-      → Did certify_most (certified m own (whole core v timeouts) (qc_of hash round signers)) out at c v' t' out' next
-      → Reached certify_most (vote_tallied m own need (whole core votes timeouts) hash round p stake) out at (record { answer = 0; core = c; at = next }) v' t' out'
-  vote-tallied-full e d = rw (vote-counted, e) (reached-done 0 d)
+  pub vote-tallied-full : {q : Quorum} {c : Core} {v' t' out' : List ℕ} {next : ℕ} → a ≡ Ok (Some q)
+      → Did certify_most (certified m own (whole core v timeouts) (qc_of hash round q.signers)) out at c v' t' out' next
+      → Reached certify_most (vote_tallied m own need (whole core votes timeouts) hash round p stake) out at (record { answer = Ok tt; core = c; at = next }) v' t' out'
+  vote-tallied-full e d = rw (vote-counted, e) (reached-done (Ok tt) d)
 
 -- ---- a timeout
 
@@ -75,16 +79,16 @@ module _ (m : List ℕ) (own need : ℕ) (core : Core) (votes timeouts out : Lis
   timeout-stays (Err NoRoom) e h = rw (timeout-no-room timeouts round p stake need high k e)
   timeout-stays (Err Used) e h = rw (timeout-used timeouts round p stake need high k e)
   timeout-stays (Ok None) e h = refl
-  timeout-stays (quorum_at i names) e h = absurd (h _ _ refl)
+  timeout-stays (Ok (Some q)) e h = absurd (h _ refl)
 
-  pub timeout-tallied-short : {n : ℕ} → Short a → n ≡ added_number a
-      → Reached time_out_most (timeout_tallied m own need (whole core votes timeouts) round p stake high) out at (record { answer = n; core = core; at = at }) votes t out
-  timeout-tallied-short h e = rw (timeout-counted, e, timeout-stays a refl h) (reached-refused time_out_most (added_number a) core votes t out at)
+  pub timeout-tallied-short : {x : Result Unit Refusal} → Short a → number x ≡ added_number a
+      → Reached time_out_most (timeout_tallied m own need (whole core votes timeouts) round p stake high) out at (record { answer = x; core = core; at = at }) votes t out
+  timeout-tallied-short {x} h e = rw (timeout-counted, timeout-stays a refl h, ← e) (reached-refused time_out_most x core votes t out at)
 
-  pub timeout-tallied-full : {i : ℕ} {names : Signers} {c : Core} {v' t' out' : List ℕ} {next : ℕ} → a ≡ quorum_at i names
-      → Did time_out_most (timed_out m own (whole core votes t) round names.0 (highs_at t i)) out at c v' t' out' next
-      → Reached time_out_most (timeout_tallied m own need (whole core votes timeouts) round p stake high) out at (record { answer = 0; core = c; at = next }) v' t' out'
-  timeout-tallied-full e d = rw (timeout-counted, e) (reached-done 0 d)
+  pub timeout-tallied-full : {q : Quorum} {c : Core} {v' t' out' : List ℕ} {next : ℕ} → a ≡ Ok (Some q)
+      → Did time_out_most (timed_out m own (whole core votes t) round q.signers.0 (highs_at t q.row)) out at c v' t' out' next
+      → Reached time_out_most (timeout_tallied m own need (whole core votes timeouts) round p stake high) out at (record { answer = Ok tt; core = c; at = next }) v' t' out'
+  timeout-tallied-full e d = rw (timeout-counted, e) (reached-done (Ok tt) d)
 
 -- ---- what is kept
 
@@ -139,5 +143,5 @@ module _ (total : ℕ) (m : List ℕ) (own need : ℕ) (low : need ≤ suc total
       cases (Ok None) = counted
       cases (Ok (Some q)) =
           keeps_then counted
-          (timed-out-keeps total (with_timeouts s (timeouts_after s.timeouts round p stake need high)) long same m own round names.0
-          (highs_at (timeouts_after s.timeouts round p stake need high) i))
+          (timed-out-keeps total (with_timeouts s (timeouts_after s.timeouts round p stake need high)) long same m own round q.signers.0
+          (highs_at (timeouts_after s.timeouts round p stake need high) q.row))

@@ -12,6 +12,7 @@ use Rattle.std.specs.Prelude.{ℕ, cond, List, [], ◌∷◌, ◌++◌, ◌≡�
 use Rattle.outputs.specs.Records.{Rec}
 use Rattle.outputs.specs.Put.{Wrote}
 use Rattle.moves.specs.declared.state.Core.{Core}
+use Rattle.certificates.specs.Error.{number}
 use Rattle.moves.specs.declared.state.Ran.{Ran}
 use Rattle.moves.specs.State.{State, whole}
 
@@ -51,5 +52,5 @@ pub record Did (k : ℕ) (a : Step) (before : List ℕ) (at : ℕ) (core : Core)
   pub bytes : Wrote k a.outs before at after next
 
 pub record Reached (k : ℕ) (o : Outcome) (before : List ℕ) (at : ℕ) (r : Ran) (votes timeouts after : List ℕ) : Type 0 where
-  pub answer : r.answer ≡ o.answer
+  pub answer : number r.answer ≡ o.answer
   pub did : Did k o.left before at r.core votes timeouts after r.at

@@ -1,4 +1,5 @@
 // The state that events change. The tallies lie in lent slices beside it.
+use certificates::error::Answer;
 use certificates::messages::QC;
 use certificates::numbers::Round;
 
@@ -21,7 +22,7 @@ pub struct Moved {
 // What an event leaves, with its answer.
 #[derive(Clone, Copy)]
 pub struct Ran {
-    pub answer: u16,
+    pub answer: Answer,
     pub core: Core,
     pub at: usize,
 }
