@@ -1,5 +1,7 @@
 -- What the handlers share: laws of checks that answer a number, of authors, and of a record that counts as started. Assumes nothing.
 --     first-refused, first-passed, first-both     the first of two checks that is not passed
+--     passes-first, passes-on, passes-no, passes-yes   what checks answer, one by one, and what their answer tells
+--     found-no, found-yes                         .. the check of a certificate
 --     author-member                               an author whose check is passed is a member
 --     keeps-sound, sound-taken                    a record that counts as started is one after a move, and once a QC is taken
 --     sound-stake, sound-place                    in such a record: a stake, and a member's place, within the limits
@@ -7,18 +9,22 @@
 use Prim.Native.Nat.{ℕ, ◌≤◌, ◌<◌}
 use mathlib.Core.Bool.{Bool, true, false, cond}
 use mathlib.Core.List.{List}
-use mathlib.Core.Path.{◌≡◌, refl, sym, ◌∙◌}
+use mathlib.Core.Path.{◌≡◌, refl, sym, ap, ◌∙◌}
 use native.Mathlib.Omega.{arith}
 use borrow.Author.Tests.{eq-eqb, ne_eqb, eqb-true, eqb-false}
 use lib.Dec.{eqb}
 use lib.ListN.{length}
+use Rattle.std.specs.Prelude.{Result, Ok, Err}
+use Rattle.certificates.specs.declared.numbers.Signers.{Signers}
+use Rattle.certificates.specs.declared.error.CertificateError.{CertificateError}
+use Rattle.certificates.specs.declared.error.Refusal.{Refusal}
 use Rattle.certificates.specs.declared.messages.QC.{QC}
 use Rattle.certificates.specs.Config.{total_max, stake_of}
 use Rattle.certificates.specs.Messages.{author_check}
-use Rattle.certificates.specs.Error.{author_number}
+use Rattle.certificates.specs.Error.{code, number, number_of, author_number}
 use Rattle.certificates.proofs.ConfigLaws.{stake-le}
 use Rattle.certificates.proofs.MessageLaws.{author}
-use Rattle.certificates.proofs.ErrorLaws.{number-valid}
+use Rattle.certificates.proofs.ErrorLaws.{code-some, number-valid}
 use Rattle.aggregator.specs.Tally.{places, vote_width, timeout_width}
 use Rattle.aggregator.specs.Tallies.{vote_tallies, timeout_tallies, Countable}
 use Rattle.aggregator.proofs.Laws.{countable}
@@ -27,7 +33,7 @@ use Rattle.moves.specs.State.{State, whole}
 use Rattle.moves.specs.Outcome.{Did}
 use Rattle.moves.specs.Moves.{taken_qc}
 use Rattle.moves.proofs.MoveLaws.{Keeps, did-keeps, taken-keeps}
-use Rattle.handlers.specs.Sound.{Sound, first}
+use Rattle.handlers.specs.Sound.{Sound, first, signers_of, Passes}
 
 -- ---- the first of two checks that is not passed
 
@@ -45,6 +51,36 @@ module _ (a b : ℕ) where
   -- a check that answers 0 was passed
   pub first-both : first a b ≡ 0 → (a ≡ 0) × (b ≡ 0)
   first-both e = from_first (eqb a 0) refl e
+
+-- ---- what checks answer
+
+-- an answer as it is handed on
+pub answer-no : {n : ℕ} {x : Result Unit Refusal} {r : Refusal} → number x ≡ n → x ≡ Err r → code r ≡ n
+answer-no e i = sym (ap number i) ∙ e
+
+pub answer-yes : {n : ℕ} {x : Result Unit Refusal} {u : Unit} → number x ≡ n → x ≡ Ok u → n ≡ 0
+answer-yes e i = sym e ∙ ap number i
+
+module _ {a b : ℕ} {s : Signers} where
+  pub passes-first : {r : Refusal} → code r ≡ a → Passes (first a b) s (Err r)
+  passes-first {r} e = e ∙ sym (first-refused a b (λ z. code-some r (e ∙ z)))
+
+  pub passes-on : {x : Result Signers Refusal} → a ≡ 0 → Passes b s x → Passes (first a b) s x
+  passes-on z p = rw (first-passed a b z) p
+
+module _ {n : ℕ} {s : Signers} {x : Result Signers Refusal} where
+  pub passes-no : {r : Refusal} → Passes n s x → x ≡ Err r → code r ≡ n
+  passes-no p i = rw i at p
+
+  pub passes-yes : {y : Signers} → Passes n s x → x ≡ Ok y → (n ≡ 0) × (y ≡ s)
+  passes-yes p i = rw i at p
+
+module _ {c : Result Signers CertificateError} (q : ℕ) where
+  pub found-no : {e : CertificateError} {r : Refusal} → c ≡ Err e → code r ≡ number_of (Err e) q → code r ≡ number_of c q
+  found-no i f = rw i f
+
+  pub found-yes : {y : Signers} → c ≡ Ok y → (number_of c q ≡ 0) × (y ≡ signers_of c)
+  found-yes i = rw i (refl, refl)
 
 -- ---- an author
 

@@ -9,7 +9,7 @@ use mathlib.Core.Bool.{true, false}
 use mathlib.Core.List.{List}
 use mathlib.Core.Path.{◌≡◌, refl, sym, ◌∙◌}
 use borrow.Author.Tests.{eq-eqb, ne_eqb}
-use Rattle.std.specs.Prelude.{Result}
+use Rattle.std.specs.Prelude.{Result, Ok, Err, is_ok}
 use Rattle.certificates.specs.declared.numbers.Signers.{Signers}
 use Rattle.certificates.specs.declared.numbers.Stake.{Stake}
 use Rattle.certificates.specs.declared.error.AuthorError.{AuthorError}
@@ -17,7 +17,9 @@ use Rattle.certificates.specs.declared.error.CertificateError.{CertificateError}
 use Rattle.certificates.specs.Config.{quorum_of}
 use Rattle.certificates.specs.Leader.{leader_of}
 use Rattle.certificates.specs.Messages.{embedded_check, tc_check, author_check}
-use Rattle.certificates.specs.Error.{wait_payload, wrong_leader, qc_requires_quorum, tc_requires_quorum, invalid_payload, number_of, author_number}
+use Rattle.certificates.specs.declared.error.Refusal.{Refusal}
+use Rattle.certificates.specs.declared.error.Refusal.TheVariants as refusal
+use Rattle.certificates.specs.Error.{code, number, wait_payload, wrong_leader, qc_requires_quorum, tc_requires_quorum, invalid_payload, number_of, author_number}
 use Rattle.trace.specs.declared.events.Block.{Block}
 use Rattle.trace.specs.Layout.{block_qc, qc_part, tc_part}
 use Rattle.moves.specs.declared.state.Core.{Core}
@@ -27,10 +29,11 @@ use Rattle.moves.specs.Outcome.{Did}
 use Rattle.moves.specs.Moves.{advanced, taken_qc, advance_most}
 use Rattle.moves.specs.Tallied.{qc_of}
 use Rattle.moves.proofs.Outcomes.{did-quiet, did_then}
-use Rattle.handlers.specs.Sound.{first, signers_of}
-use Rattle.handlers.specs.declared.proposals.Proposed.{Proposed}
-use Rattle.handlers.specs.Proposals.{leader_check, qc_found, tc_number, proposal_check, advanced_tc, taken, taken_most, payload_number, by_payload, proposal_with, proposal_of, Proposes, refused_as, payload_as}
-use Rattle.handlers.proofs.HandlerLaws.{first-refused, first-passed}
+use Rattle.handlers.specs.Sound.{signers_of, Passes}
+use Rattle.moves.specs.declared.state.Ran.{Ran}
+use Rattle.handlers.specs.Proposals.{leader_check, qc_found, tc_number, proposal_check, advanced_tc, taken, taken_most, payload_number, payload_answer, by_payload, proposal_with, proposal_of, Proposes, payload_as}
+use Rattle.handlers.proofs.HandlerLaws.{answer-no, answer-yes, passes-first, passes-on, passes-no, passes-yes, found-no, found-yes}
+use Rattle.certificates.proofs.ErrorLaws.{code-some}
 
 -- ---- the checks
 
@@ -48,10 +51,46 @@ module _ (m : List ℕ) (b : Block) (input : List ℕ) where
   unfolding tc_number
   tc-none h = rw (eq-eqb _ _ h)
 
-  pub tc-checked : {n need : ℕ} {part : List ℕ} {c : Result Signers CertificateError} → (b.tc ≡ 0 → ⊥) → need ≡ quorum_of m → part ≡ tc_part input b.tc
-      → c ≡ tc_check m need part → n ≡ number_of c tc_requires_quorum → n ≡ tc_number m b input
-  unfolding tc_number
-  tc-checked h q p e f = rw (ne_eqb _ _ h, ← q, ← p, ← e) f
+  module _ {need : ℕ} {part : List ℕ} {c : Result Signers CertificateError} (h : b.tc ≡ 0 → ⊥) (q : need ≡ quorum_of m) (p : part ≡ tc_part input b.tc) (e : c ≡ tc_check m need part) where
+    pub tc-checked : number_of c tc_requires_quorum ≡ tc_number m b input
+    unfolding tc_number
+    tc-checked = rw (ne_eqb _ _ h, ← q, ← p, ← e)
+
+    pub tc-passed : {y : Signers} → c ≡ Ok y → 0 ≡ tc_number m b input
+    tc-passed i = sym (found-yes tc_requires_quorum i).0 ∙ tc-checked
+
+    pub tc-refused : {f : CertificateError} {r : Refusal} → c ≡ Err f → code r ≡ number_of (Err f) tc_requires_quorum → code r ≡ tc_number m b input
+    tc-refused i n = found-no tc_requires_quorum i n ∙ tc-checked
+
+-- ---- all checks
+
+module _ (m : List ℕ) (b : Block) (input : List ℕ) {l : Result Unit Refusal} (e : number l ≡ leader_check m b) where
+  abbrev all : ℕ
+  all = proposal_check m b input (qc_found m input)
+
+  abbrev signed : Signers
+  signed = signers_of (qc_found m input)
+
+  pub check-leader : {r : Refusal} → l ≡ Err r → Passes all signed (Err r)
+  unfolding proposal_check
+  check-leader i = passes-first (answer-no e i)
+
+  module _ {u : Unit} (z : l ≡ Ok u) {need : ℕ} {part : List ℕ} {c : Result Signers CertificateError} (q : need ≡ quorum_of m) (p : part ≡ qc_part input block_qc) (f : c ≡ embedded_check m need part) where
+    found : qc_found m input ≡ c
+    found = rw (f, q, p)
+
+    pub check-qc : {w : CertificateError} {r : Refusal} → c ≡ Err w → code r ≡ number_of (Err w) qc_requires_quorum → Passes all signed (Err r)
+    unfolding proposal_check
+    check-qc i n = passes-on (answer-yes e z) (passes-first (found-no qc_requires_quorum (found ∙ i) n))
+
+    module _ {y : Signers} (i : c ≡ Ok y) {t : Result Unit Refusal} (g : number t ≡ tc_number m b input) where
+      pub check-tc : {r : Refusal} → t ≡ Err r → Passes all signed (Err r)
+      unfolding proposal_check
+      check-tc j = let k = found-yes qc_requires_quorum (found ∙ i) in passes-on (answer-yes e z) (passes-on k.0 (answer-no g j))
+
+      pub check-passed : {v : Unit} → t ≡ Ok v → Passes all signed (Ok y)
+      unfolding proposal_check
+      check-passed j = let k = found-yes qc_requires_quorum (found ∙ i) in passes-on (answer-yes e z) (passes-on k.0 (answer-yes g j, k.1))
 
 -- ---- the certificates are taken
 
@@ -68,48 +107,38 @@ module _ (core : Core) (votes timeouts : List ℕ) (b : Block) (signers : Signer
 
 -- ---- the payload
 
-module _ (a : Moved) (payload : ℕ) where
-  pub payload-ready : payload ≡ 1 → record { answer = 0; goes_on = true; core = a.core; at = a.at } ≡ payload_as a payload
+module _ (payload : ℕ) where
+  pub payload-goes : is_ok (payload_answer payload) ≡ eqb payload 1
+  payload-goes = cases (eqb payload 1) (eqb payload 0)
+    where
+      cases : (u v : Bool) → is_ok (cond u (Ok tt) (cond v (Err refusal.WaitPayload) (Err refusal.InvalidPayload))) ≡ u
+      cases true v = refl
+      cases false true = refl
+      cases false false = refl
+
+  pub payload-is : number (payload_answer payload) ≡ payload_number payload
   unfolding payload_number
-  payload-ready h = rw (eq-eqb _ _ h)
-
-  module _ (n : payload ≡ 1 → ⊥) where
-    pub payload-absent : payload ≡ 0 → record { answer = wait_payload; goes_on = false; core = a.core; at = a.at } ≡ payload_as a payload
-    unfolding payload_number
-    payload-absent h = rw (ne_eqb _ _ n, eq-eqb _ _ h)
-
-    pub payload-invalid : (payload ≡ 0 → ⊥) → record { answer = invalid_payload; goes_on = false; core = a.core; at = a.at } ≡ payload_as a payload
-    unfolding payload_number
-    payload-invalid h = rw (ne_eqb _ _ n, ne_eqb _ _ h)
+  payload-is = cases (eqb payload 1) (eqb payload 0)
+    where
+      cases : (u v : Bool) → number (cond u (Ok tt) (cond v (Err refusal.WaitPayload) (Err refusal.InvalidPayload))) ≡ cond u 0 (cond v wait_payload invalid_payload)
+      cases true v = refl
+      cases false true = refl
+      cases false false = refl
 
 -- ---- the handler
 
-module _ (m : List ℕ) (core : Core) (votes timeouts out : List ℕ) (b : Block) (input : List ℕ) (payload : ℕ) where
-  not-passed : {n : ℕ} {r : Proposed} → n ≡ proposal_check m b input (qc_found m input) → (n ≡ 0 → ⊥) → r ≡ refused_as core n
-      → Proposes taken_most (proposal_of m (whole core votes timeouts) b input payload) out 0 r votes timeouts out
+module _ (m : List ℕ) (core : Core) (votes timeouts out : List ℕ) (b : Block) (input : List ℕ) (payload : ℕ) {x : Result Signers Refusal}
+    (c : Passes (proposal_check m b input (qc_found m input)) (signers_of (qc_found m input)) x) where
+  pub proposal-refused : {r : Refusal} → x ≡ Err r
+      → Proposes taken_most (proposal_of m (whole core votes timeouts) b input payload) out 0 (record { answer = Err r; core = core; at = 0 }) votes timeouts out
   unfolding proposal_of proposal_with
-  not-passed {n} e h f = rw (← e, ne_eqb n 0 h, f) (record { goes = refl; answer = refl; did = did-quiet taken_most core votes timeouts out 0 })
+  proposal-refused {r} i =
+      rw (← passes-no c i, ne_eqb (code r) 0 (code-some r)) (record { goes = refl; answer = refl; did = did-quiet taken_most core votes timeouts out 0 })
 
-  module _ {n : ℕ} (e : n ≡ leader_check m b) where
-    pub proposal-leader : {r : Proposed} → (n ≡ 0 → ⊥) → r ≡ refused_as core n → Proposes taken_most (proposal_of m (whole core votes timeouts) b input payload) out 0 r votes timeouts out
-    unfolding proposal_check
-    proposal-leader h f = not-passed (rw (← e, first-refused n _ h)) h f
-
-    module _ {need k : ℕ} {part : List ℕ} {c : Result Signers CertificateError} (z : n ≡ 0) (q : need ≡ quorum_of m) (p : part ≡ qc_part input block_qc) (f : c ≡ embedded_check m need part) (g : k ≡ number_of c qc_requires_quorum) where
-      checks : proposal_check m b input (qc_found m input) ≡ first k (tc_number m b input)
-      unfolding proposal_check
-      checks = rw (← e, first-passed n _ z, ← q, ← p, ← f, ← g)
-
-      pub proposal-qc : {r : Proposed} → (k ≡ 0 → ⊥) → r ≡ refused_as core k → Proposes taken_most (proposal_of m (whole core votes timeouts) b input payload) out 0 r votes timeouts out
-      proposal-qc h u = not-passed (sym (checks ∙ first-refused k _ h)) h u
-
-      module _ {j : ℕ} (y : k ≡ 0) (d : j ≡ tc_number m b input) where
-        pub proposal-tc : {r : Proposed} → (j ≡ 0 → ⊥) → r ≡ refused_as core j → Proposes taken_most (proposal_of m (whole core votes timeouts) b input payload) out 0 r votes timeouts out
-        proposal-tc h u = not-passed (d ∙ sym (checks ∙ first-passed k _ y)) h u
-
-        pub proposal-taken : {r : Proposed} {signers : Signers} {a : Moved} {v' t' out' : List ℕ} → j ≡ 0 → signers ≡ signers_of c
-            → Did taken_most (taken (whole core votes timeouts) b signers) out 0 a.core v' t' out' a.at → r ≡ payload_as a payload
-            → Proposes taken_most (proposal_of m (whole core votes timeouts) b input payload) out 0 r v' t' out'
-        unfolding proposal_of proposal_with by_payload
-        proposal-taken x s w u =
-            rw (checks ∙ first-passed k _ y ∙ sym d ∙ x, ← q, ← p, ← f, ← s, u) (record { goes = refl; answer = refl; did = w })
+  pub proposal-taken : {y : Signers} {a : Moved} {r : Ran} {v' t' out' : List ℕ} → x ≡ Ok y
+      → Did taken_most (taken (whole core votes timeouts) b y) out 0 a.core v' t' out' a.at → r ≡ payload_as a payload
+      → Proposes taken_most (proposal_of m (whole core votes timeouts) b input payload) out 0 r v' t' out'
+  unfolding proposal_of proposal_with by_payload
+  proposal-taken i w u =
+      let q = passes-yes c i in
+      rw (q.0, ← q.1, u) (record { goes = payload-goes payload; answer = payload-is payload; did = w })

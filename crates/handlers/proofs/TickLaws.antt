@@ -7,12 +7,14 @@ use Prim.Native.Nat.{ℕ, ◌≤◌, ◌<◌}
 use mathlib.Core.List.{List}
 use mathlib.Core.Path.{◌≡◌, refl}
 use borrow.Author.Tests.{ne_eqb, lt-ltb, le-ltb}
-use Rattle.std.specs.Prelude.{Result}
+use Rattle.std.specs.Prelude.{Result, Ok, Err}
 use Rattle.certificates.specs.declared.numbers.Stake.{Stake}
 use Rattle.certificates.specs.declared.error.AuthorError.{AuthorError}
 use Rattle.certificates.specs.Config.{stake_of, quorum_of}
 use Rattle.certificates.specs.Messages.{author_check}
-use Rattle.certificates.specs.Error.{round_too_high, author_number}
+use Rattle.certificates.specs.declared.error.Refusal.{Refusal}
+use Rattle.certificates.specs.declared.error.Refusal.TheVariants as refusal
+use Rattle.certificates.specs.Error.{code, round_too_high, author_number}
 use Rattle.certificates.specs.Numbers.{round_max}
 use Rattle.outputs.specs.Records.{timer_reset, timeout, enc, timer_reset_size, timeout_size}
 use Rattle.outputs.specs.Put.{Put}
@@ -23,7 +25,7 @@ use Rattle.moves.specs.State.{whole, with_voted}
 use Rattle.moves.specs.Outcome.{Reached}
 use Rattle.moves.specs.Moves.{time_out_most}
 use Rattle.moves.specs.Tallied.{timeout_tallied}
-use Rattle.moves.proofs.Outcomes.{reached-refused, reached-after}
+use Rattle.moves.proofs.Outcomes.{reached-refused, reached-after, reached-checked-refused, reached-checked-passed}
 use Rattle.handlers.specs.Timeouts.{voted_up, TicksTo, own_timeout, handled_tick, local_timeout_most}
 
 -- ---- the first part of a tick
@@ -49,24 +51,28 @@ tick-within p h = rw p.stays h
 
 -- ---- the own timeout
 
-module _ (m : List ℕ) (own : ℕ) (core : Core) (votes timeouts out : List ℕ) (at : ℕ) {n : ℕ} {a : Result Stake AuthorError} (e : a ≡ author_check m own 1) (f : n ≡ author_number a) where
-  pub own-refused : (n ≡ 0 → ⊥) → Reached time_out_most (own_timeout m own (whole core votes timeouts)) out at (record { answer = n; core = core; at = at }) votes timeouts out
-  unfolding own_timeout
-  own-refused h = rw (← e, ← f, ne_eqb _ _ h) (reached-refused time_out_most n core votes timeouts out at)
+module _ (m : List ℕ) (own : ℕ) (core : Core) (votes timeouts out : List ℕ) (at : ℕ) {a : Result Stake AuthorError} (e : a ≡ author_check m own 1) where
+  own-number : {c : Result Stake AuthorError} → a ≡ c → author_number c ≡ author_number (author_check m own 1)
+  own-number i = rw (← i, e)
 
-  pub own-tallied : {need stake : ℕ} {r : Ran} {v t out' : List ℕ} → n ≡ 0 → need ≡ quorum_of m → stake ≡ stake_of m own
+  pub own-refused : {c : AuthorError} {r : Refusal} → a ≡ Err c → code r ≡ author_number (Err c)
+      → Reached time_out_most (own_timeout m own (whole core votes timeouts)) out at (record { answer = Err r; core = core; at = at }) votes timeouts out
+  unfolding own_timeout
+  own-refused {c} {r} i f = rw (← (f ∙ own-number i)) (reached-checked-refused time_out_most r core votes timeouts out at _)
+
+  pub own-tallied : {held : Stake} {need stake : ℕ} {r : Ran} {v t out' : List ℕ} → a ≡ Ok held → need ≡ quorum_of m → stake ≡ stake_of m own
       → Reached time_out_most (timeout_tallied m own need (whole core votes timeouts) core.round.0 own stake core.high_qc.round.0) out at r v t out'
       → Reached time_out_most (own_timeout m own (whole core votes timeouts)) out at r v t out'
   unfolding own_timeout
-  own-tallied z g h d = rw (← e, ← f, z, ← g, ← h) d
+  own-tallied i g h d = rw (← g, ← h) (reached-checked-passed _ (whole core votes timeouts) (sym (own-number i)) d)
 
 -- ---- the handler
 
 module _ (m : List ℕ) (own : ℕ) (core : Core) (votes timeouts out : List ℕ) where
   pub tick-high : round_max < core.round.0
-      → Reached local_timeout_most (handled_tick m own (whole core votes timeouts)) out 0 (record { answer = round_too_high; core = core; at = 0 }) votes timeouts out
+      → Reached local_timeout_most (handled_tick m own (whole core votes timeouts)) out 0 (record { answer = Err refusal.RoundTooHigh; core = core; at = 0 }) votes timeouts out
   unfolding handled_tick
-  tick-high h = rw (lt-ltb _ _ h) (reached-refused local_timeout_most round_too_high core votes timeouts out 0)
+  tick-high h = rw (lt-ltb _ _ h) (reached-refused local_timeout_most (Err refusal.RoundTooHigh) core votes timeouts out 0)
 
   pub tick-after : {n : Core} {mid : ℕ} {r : Ran} {out' out'' v t : List ℕ} → core.round.0 ≤ round_max → TicksTo core out 0 n out' mid
       → Reached time_out_most (own_timeout m own (whole n votes timeouts)) out' mid r v t out''

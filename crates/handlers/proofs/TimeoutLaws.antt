@@ -11,14 +11,15 @@ use native.Mathlib.Omega.{arith}
 use borrow.Author.Tests.{ne_eqb, lt-ltb, le-ltb}
 use lib.Dec.{ltb}
 use lib.ListN.{length}
-use Rattle.std.specs.Prelude.{Result}
+use Rattle.std.specs.Prelude.{Result, Ok, Err}
 use Rattle.certificates.specs.declared.numbers.Signers.{Signers}
 use Rattle.certificates.specs.declared.error.CertificateError.{CertificateError}
 use Rattle.certificates.specs.declared.numbers.Stake.{Stake}
 use Rattle.certificates.specs.declared.error.AuthorError.{AuthorError}
 use Rattle.certificates.specs.Config.{stake_of, quorum_of}
 use Rattle.certificates.specs.Messages.{embedded_check, author_check}
-use Rattle.certificates.specs.Error.{stale, qc_requires_quorum, number_of, author_number}
+use Rattle.certificates.specs.declared.error.Refusal.{Refusal}
+use Rattle.certificates.specs.Error.{code, number, stale, qc_requires_quorum, number_of, author_number}
 use Rattle.trace.specs.declared.events.Timeout.{Timeout}
 use Rattle.trace.specs.Layout.{timeout_qc, qc_part}
 use Rattle.moves.specs.declared.state.Core.{Core}
@@ -27,10 +28,10 @@ use Rattle.moves.specs.State.{State, whole}
 use Rattle.moves.specs.Outcome.{Did, Reached}
 use Rattle.moves.specs.Moves.{taken_qc, advance_most, time_out_most}
 use Rattle.moves.specs.Tallied.{qc_of, timeout_tallied}
-use Rattle.moves.proofs.Outcomes.{reached-refused, reached-after}
-use Rattle.handlers.specs.Sound.{signers_of}
-use Rattle.handlers.specs.Timeouts.{timeout_check, timeout_taken, timeout_with, handled_timeout, handle_timeout_most}
-use Rattle.handlers.proofs.HandlerLaws.{author-member}
+use Rattle.moves.proofs.Outcomes.{reached-after, reached-checked-refused, reached-checked-passed}
+use Rattle.handlers.specs.Sound.{signers_of, Passes}
+use Rattle.handlers.specs.Timeouts.{timeout_check, timeout_qc_found, timeout_number, timeout_taken, timeout_with, handled_timeout, handle_timeout_most}
+use Rattle.handlers.proofs.HandlerLaws.{first-both, author-member, answer-no, answer-yes, passes-first, passes-on, passes-no, passes-yes, found-no, found-yes}
 
 -- ---- the checks of the timeout itself
 
@@ -47,10 +48,26 @@ module _ (m : List ℕ) (current : ℕ) (t : Timeout) where
   not-stale true x e = absurd (omega arith)
   not-stale false x e = e
 
-  pub timeout-member : {n : ℕ} → n ≡ timeout_check m current t → n ≡ 0 → t.author.0 < length m
+  pub timeout-member : timeout_check m current t ≡ 0 → t.author.0 < length m
   unfolding timeout_check
-  timeout-member e z =
-      author-member m t.author.0 t.verdict (not-stale (ltb t.round.0 current) (author_number (author_check m t.author.0 t.verdict)) (sym e ∙ z))
+  timeout-member z = author-member m t.author.0 t.verdict (not-stale (ltb t.round.0 current) (author_number (author_check m t.author.0 t.verdict)) z)
+
+-- ---- the checks
+
+module _ (m : List ℕ) (current : ℕ) (t : Timeout) (r : List ℕ) {a : Result Unit Refusal} (e : number a ≡ timeout_check m current t) where
+  pub check-timeout : {f : Refusal} → a ≡ Err f → Passes (timeout_number m current t (timeout_qc_found m r)) (signers_of (timeout_qc_found m r)) (Err f)
+  check-timeout i = passes-first (answer-no e i)
+
+  module _ {u : Unit} (z : a ≡ Ok u) {need : ℕ} {part : List ℕ} {x : Result Signers CertificateError} (q : need ≡ quorum_of m) (p : part ≡ qc_part r timeout_qc) (w : x ≡ embedded_check m need part) where
+    found : timeout_qc_found m r ≡ x
+    found = rw (w, q, p)
+
+    pub check-timeout-qc : {c : CertificateError} {f : Refusal} → x ≡ Err c → code f ≡ number_of (Err c) qc_requires_quorum
+        → Passes (timeout_number m current t (timeout_qc_found m r)) (signers_of (timeout_qc_found m r)) (Err f)
+    check-timeout-qc i n = passes-on (answer-yes e z) (found-no qc_requires_quorum (found ∙ i) n)
+
+    pub check-timeout-passed : {y : Signers} → x ≡ Ok y → Passes (timeout_number m current t (timeout_qc_found m r)) (signers_of (timeout_qc_found m r)) (Ok y)
+    check-timeout-passed i = passes-on (answer-yes e z) (found-yes qc_requires_quorum (found ∙ i))
 
 -- ---- the QC is taken, and the timeout counted
 
@@ -66,20 +83,18 @@ module _ (m : List ℕ) (own : ℕ) (core : Core) (votes timeouts : List ℕ) (t
 
 -- ---- the handler
 
-module _ (m : List ℕ) (own : ℕ) (core : Core) (votes timeouts out : List ℕ) (t : Timeout) (r : List ℕ) {n : ℕ} (c : n ≡ timeout_check m core.round.0 t) where
-  pub timeout-refused : (n ≡ 0 → ⊥) → Reached handle_timeout_most (handled_timeout m own (whole core votes timeouts) t r) out 0 (record { answer = n; core = core; at = 0 }) votes timeouts out
+module _ (m : List ℕ) (own : ℕ) (core : Core) (votes timeouts out : List ℕ) (t : Timeout) (r : List ℕ) {x : Result Signers Refusal}
+    (c : Passes (timeout_number m core.round.0 t (timeout_qc_found m r)) (signers_of (timeout_qc_found m r)) x) where
+  pub timeout-refused : {f : Refusal} → x ≡ Err f
+      → Reached handle_timeout_most (handled_timeout m own (whole core votes timeouts) t r) out 0 (record { answer = Err f; core = core; at = 0 }) votes timeouts out
   unfolding handled_timeout timeout_with
-  timeout-refused h = rw (← c, ne_eqb _ _ h, ne_eqb _ _ h) (reached-refused handle_timeout_most n core votes timeouts out 0)
+  timeout-refused {f} i = rw (← passes-no c i) (reached-checked-refused handle_timeout_most f core votes timeouts out 0 _)
 
-  module _ {need k : ℕ} {part : List ℕ} {qc : Result Signers CertificateError} (z : n ≡ 0) (e : need ≡ quorum_of m) (p : part ≡ qc_part r timeout_qc) (q : qc ≡ embedded_check m need part)
-      (f : k ≡ number_of qc qc_requires_quorum) where
-    pub timeout-qc-refused : (k ≡ 0 → ⊥)
-        → Reached handle_timeout_most (handled_timeout m own (whole core votes timeouts) t r) out 0 (record { answer = k; core = core; at = 0 }) votes timeouts out
-    unfolding handled_timeout timeout_with
-    timeout-qc-refused h = rw (← c, z, ← e, ← p, ← q, ← f, ne_eqb _ _ h) (reached-refused handle_timeout_most k core votes timeouts out 0)
+  module _ {y : Signers} (i : x ≡ Ok y) where
+    pub timeout-known : t.author.0 < length m
+    timeout-known = timeout-member m core.round.0 t (first-both (timeout_check m core.round.0 t) _ (passes-yes c i).0).0
 
-    pub timeout-passed : {signers : Signers} {a : Ran} {v w out' : List ℕ} → k ≡ 0 → signers ≡ signers_of qc
-        → Reached handle_timeout_most (timeout_taken m own (whole core votes timeouts) t signers) out 0 a v w out'
+    pub timeout-passed : {a : Ran} {v w out' : List ℕ} → Reached handle_timeout_most (timeout_taken m own (whole core votes timeouts) t y) out 0 a v w out'
         → Reached handle_timeout_most (handled_timeout m own (whole core votes timeouts) t r) out 0 a v w out'
     unfolding handled_timeout timeout_with
-    timeout-passed y g d = rw (← c, z, ← e, ← p, ← q, ← f, y, ← g) d
+    timeout-passed d = let q = passes-yes c i in reached-checked-passed _ (whole core votes timeouts) q.0 (rw (← q.1) d)

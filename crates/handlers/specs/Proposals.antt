@@ -9,25 +9,27 @@
 --     payload_number, by_payload payload a  what the payload's verdict makes of a block whose certificates were taken
 --     proposal_of m s b r payload           what a proposal does
 --     Proposes k p ..                       what code did, against such a definition
---     refused_as core n, payload_as a payload   what code hands on of a proposal that is refused early, and of one that is not
+--     payload_answer payload, payload_as a payload   the answer of a payload, and what code hands on with it
 --     taken_most                            the most bytes that a proposal writes
-use Rattle.std.specs.Prelude.{ℕ, ◌+◌, Bool, false, cond, List, ◌≡◌, eqb, Result}
+use Rattle.std.specs.Prelude.{ℕ, ◌+◌, Bool, false, cond, List, ◌≡◌, eqb, Result, Ok, Err, is_ok}
 use Rattle.certificates.specs.declared.numbers.Signers.{Signers}
 use Rattle.certificates.specs.declared.error.CertificateError.{CertificateError}
 use Rattle.certificates.specs.Config.{quorum_of}
 use Rattle.certificates.specs.Leader.{leader_of}
 use Rattle.certificates.specs.Messages.{embedded_check, tc_check, author_check}
-use Rattle.certificates.specs.Error.{wait_payload, wrong_leader, qc_requires_quorum, tc_requires_quorum, invalid_payload, number_of, author_number}
+use Rattle.certificates.specs.declared.error.Refusal.{Refusal}
+use Rattle.certificates.specs.declared.error.Refusal.TheVariants as refusal
+use Rattle.certificates.specs.Error.{number, wait_payload, wrong_leader, qc_requires_quorum, tc_requires_quorum, invalid_payload, number_of, author_number}
 use Rattle.trace.specs.declared.events.Block.{Block}
 use Rattle.trace.specs.Layout.{block_qc, qc_part, tc_part}
 use Rattle.moves.specs.declared.state.Core.{Core}
 use Rattle.moves.specs.declared.state.Moved.{Moved}
+use Rattle.moves.specs.declared.state.Ran.{Ran}
 use Rattle.moves.specs.State.{State}
 use Rattle.moves.specs.Outcome.{Step, Outcome, quiet, and_then, done, refused, Did}
 use Rattle.moves.specs.Moves.{advanced, taken_qc, advance_most}
 use Rattle.moves.specs.Tallied.{qc_of}
 use Rattle.handlers.specs.Sound.{first, signers_of}
-use Rattle.handlers.specs.declared.proposals.Proposed.{Proposed}
 
 -- "PROPOSE: leader; author stake; verdict"
 unfoldable pub leader_check : List ℕ → Block → ℕ
@@ -75,16 +77,16 @@ proposal_of m s b r payload = proposal_with m s b r payload (qc_found m r)
 
 -- ---- what code did
 
-pub record Proposes (k : ℕ) (p : Proposal) (before : List ℕ) (at : ℕ) (r : Proposed) (votes timeouts after : List ℕ) : Type 0 where
-  pub goes : r.goes_on ≡ p.goes_on
-  pub answer : r.answer ≡ p.out.answer
+pub record Proposes (k : ℕ) (p : Proposal) (before : List ℕ) (at : ℕ) (r : Ran) (votes timeouts after : List ℕ) : Type 0 where
+  pub goes : is_ok r.answer ≡ p.goes_on
+  pub answer : number r.answer ≡ p.out.answer
   pub did : Did k p.out.left before at r.core votes timeouts after r.at
 
-abbrev pub refused_as : Core → ℕ → Proposed
-refused_as core n = record { answer = n; goes_on = false; core = core; at = 0 }
+abbrev pub payload_answer : ℕ → Result Unit Refusal
+payload_answer payload = cond (eqb payload 1) (Ok tt) (cond (eqb payload 0) (Err refusal.WaitPayload) (Err refusal.InvalidPayload))
 
-abbrev pub payload_as : Moved → ℕ → Proposed
-payload_as a payload = record { answer = payload_number payload; goes_on = eqb payload 1; core = a.core; at = a.at }
+abbrev pub payload_as : Moved → ℕ → Ran
+payload_as a payload = record { answer = payload_answer payload; core = a.core; at = a.at }
 
 -- ---- how much is written at most
 

@@ -2,10 +2,13 @@
 --     handle_timeout_most, handle_tc_most, tick_most, local_timeout_most  the most bytes that are written
 --     timeout_check m current t             the checks of a timeout itself
 --     timeout_taken m own s t signers       its QC is taken, then the timeout counted
+--     timeout_qc_found m r                  what the check of its QC finds
+--     timeout_number m current t qc         the number of its checks
 --     timeout_with m own s t qc             TIMEOUT, by what the check of its QC answers
 --     handled_timeout m own s t r           TIMEOUT
 --     tc_taken m own s round names part     advance, then MAKE with the TC
 --     stale_if round current                STALE for a round below the current one
+--     tc_event_number current round tc      the number of TC's checks
 --     tc_with m own s round part tc         TC, by what its check answers
 --     handled_tc m own s round r            TC
 --     voted_up c round                      last voted raised to a round, never lowered
@@ -57,13 +60,19 @@ timeout_taken m own s t signers =
     after (taken_qc s (qc_of t.qc_hash t.qc_round.0 signers))
     (λ (u : State). timeout_tallied m own (quorum_of m) u t.round.0 t.author.0 (stake_of m t.author.0) t.qc_round.0)
 
--- ".. its QC; the QC is taken .."
+-- ".. its QC .."
+abbrev pub timeout_qc_found : List ℕ → List ℕ → Result Signers CertificateError
+timeout_qc_found m r = embedded_check m (quorum_of m) (qc_part r timeout_qc)
+
+abbrev pub timeout_number : List ℕ → ℕ → Timeout → Result Signers CertificateError → ℕ
+timeout_number m current t qc = first (timeout_check m current t) (number_of qc qc_requires_quorum)
+
+-- ".. the QC is taken .."
 unfoldable pub timeout_with : List ℕ → ℕ → State → Timeout → Result Signers CertificateError → Outcome
-timeout_with m own s t qc =
-    checked (first (timeout_check m s.core.round.0 t) (number_of qc qc_requires_quorum)) s (timeout_taken m own s t (signers_of qc))
+timeout_with m own s t qc = checked (timeout_number m s.core.round.0 t qc) s (timeout_taken m own s t (signers_of qc))
 
 unfoldable pub handled_timeout : List ℕ → ℕ → State → Timeout → List ℕ → Outcome
-handled_timeout m own s t r = timeout_with m own s t (embedded_check m (quorum_of m) (qc_part r timeout_qc))
+handled_timeout m own s t r = timeout_with m own s t (timeout_qc_found m r)
 
 -- ---- TC
 
@@ -76,9 +85,11 @@ abbrev pub stale_if : ℕ → ℕ → ℕ
 stale_if round current = cond (ltb round current) stale 0
 
 -- "TC: checked first, then STALE if below"
+abbrev pub tc_event_number : ℕ → ℕ → Result Signers CertificateError → ℕ
+tc_event_number current round tc = first (number_of tc tc_requires_quorum) (stale_if round current)
+
 unfoldable pub tc_with : List ℕ → ℕ → State → ℕ → List ℕ → Result Signers CertificateError → Outcome
-tc_with m own s round part tc =
-    checked (first (number_of tc tc_requires_quorum) (stale_if round s.core.round.0)) s (done 0 (tc_taken m own s round (signers_of tc) part))
+tc_with m own s round part tc = checked (tc_event_number s.core.round.0 round tc) s (done 0 (tc_taken m own s round (signers_of tc) part))
 
 unfoldable pub handled_tc : List ℕ → ℕ → State → ℕ → List ℕ → Outcome
 handled_tc m own s round r = tc_with m own s round (tc_part r tc_body) (tc_check m (quorum_of m) (tc_part r tc_body))

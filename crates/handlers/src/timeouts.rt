@@ -1,37 +1,56 @@
 // TIMEOUT, TC and TICK: handle_timeout, handle_tc, local_timeout_round.
 ghost use Rattle.std.specs.Prelude.{◌≡◌, ◌+◌, ◌≤◌, ◌<◌, length};
 ghost use Rattle.certificates.specs.Config.{stake_of, quorum_of};
+ghost use Rattle.certificates.specs.Error.{number};
+ghost use Rattle.certificates.specs.Messages.{tc_check};
 ghost use Rattle.certificates.specs.Numbers.{round_max};
 ghost use Rattle.moves.specs.State.{whole};
 ghost use Rattle.moves.specs.Outcome.{Did, Reached};
 ghost use Rattle.moves.specs.Moves.{time_out_most};
 ghost use Rattle.moves.specs.Tallied.{timeout_tallied};
-ghost use Rattle.handlers.specs.Sound.{Sound};
-ghost use Rattle.handlers.specs.Timeouts.{timeout_check, timeout_taken, handled_timeout, tc_taken, handled_tc, voted_up, TicksTo, own_timeout, handled_tick};
+ghost use Rattle.handlers.specs.Sound.{Sound, signers_of, Passes};
+ghost use Rattle.handlers.specs.Timeouts.{timeout_check, timeout_qc_found, timeout_number, timeout_taken, tc_event_number, handled_timeout, tc_taken, handled_tc, voted_up, TicksTo, own_timeout, handled_tick};
 ghost use Rattle.handlers.specs.Timeouts.{handle_timeout_most, handle_tc_most, tick_most, local_timeout_most};
 
-use crate::checks::{YES, signers_of};
-use aggregator::tallies::{Added, add_timeout};
+use crate::checks::YES;
+use aggregator::tallies::add_timeout;
 use certificates::config::{MEMBERS_MAX, stake};
-use certificates::error::{
-    DONE, QC_REQUIRES_QUORUM, ROUND_TOO_HIGH, STALE, TC_REQUIRES_QUORUM, author_number, number_of,
-};
+use certificates::error::{Answer, Refusal};
 use certificates::messages::{QC, check_author, check_embedded_qc, check_tc};
 use certificates::numbers::{Place, ROUND_MAX, Round, Signers, Stake};
 use moves::rounds::{advance_round, generate_proposal_with, process_qc, time_out};
 use moves::state::{Core, Moved, Ran};
-use moves::tallies::added_number;
+use moves::tallies::added_answer;
 use outputs::records::{put_timeout, put_timer_reset};
 use trace::events::{TC_BODY, TIMEOUT_QC, Timeout, highs_of, qc_part, tc_part};
 
-// STALE, the author, the verdict: 0 where all are passed.
-fn timeout_check(members: &[u32], current: Round, t: Timeout) -> u16
-    ensures { result ≡ timeout_check members.now current.0 t }
+// STALE, the author, the verdict.
+fn timeout_check(members: &[u32], current: Round, t: Timeout) -> Answer
+    ensures { number result ≡ timeout_check members.now current.0 t }
 {
     if t.round.0 < current.0 {
-        return STALE;
+        return Err(Refusal::Stale);
     }
-    author_number(check_author(members, t.author, t.verdict))
+    check_author(members, t.author, t.verdict)?;
+    Ok(())
+}
+
+// That, then its QC, which is checked where it lies.
+fn check_timeout(
+    members: &[u32],
+    need: Stake,
+    current: Round,
+    input: &[u8],
+    t: Timeout,
+) -> Result<Signers, Refusal>
+    requires { need.0 ≡ quorum_of members.now }
+    ensures { Passes (timeout_number members.now current.0 t input.now) (signers_of (timeout_qc_found members.now input.now)) result }
+{
+    timeout_check(members, current, t)?;
+    match check_embedded_qc(members, need, qc_part(input, TIMEOUT_QC)) {
+        Ok(signers) => Ok(signers),
+        Err(e) => Err(e.refusal(Refusal::QcRequiresQuorum)),
+    }
 }
 
 // A timeout of a member counted in its tally; at the quorum its TC is written and taken. The state is
@@ -97,7 +116,7 @@ fn take_timeout(
     )
 }
 
-// t is what the record says; its QC is checked where it lies.
+// t is what the record says.
 pub fn handle_timeout(
     members: &[u32],
     own: Place,
@@ -112,25 +131,16 @@ pub fn handle_timeout(
     requires { Sound members.now own.0 votes.old timeouts.old × (need.0 ≡ quorum_of members.now) × (t.round.0 ≤ round_max) × (t.qc_round.0 ≤ round_max) × (handle_timeout_most ≤ length out.old) }
     ensures { Reached handle_timeout_most (handled_timeout members.now own.0 (whole core votes.old timeouts.old) t input.now) out.old 0 result votes.new timeouts.new out.new }
 {
-    let n = timeout_check(members, core.round, t);
-    if n != 0 {
-        return Ran {
-            answer: n,
+    match check_timeout(members, need, core.round, input, t) {
+        Ok(signers) => {
+            take_timeout(members, own, need, core, votes, timeouts, out, t, signers)
+        }
+        Err(refusal) => Ran {
+            answer: Err(refusal),
             core,
             at: 0,
-        };
+        },
     }
-    let c = check_embedded_qc(members, need, qc_part(input, TIMEOUT_QC));
-    let k = number_of(c, QC_REQUIRES_QUORUM);
-    if k != 0 {
-        return Ran {
-            answer: k,
-            core,
-            at: 0,
-        };
-    }
-    let signers = signers_of(c);
-    take_timeout(members, own, need, core, votes, timeouts, out, t, signers)
 }
 
 // Advance, and MAKE with the TC if the own place leads.
@@ -155,7 +165,23 @@ fn take_tc(
     a
 }
 
-// The TC is checked before STALE, as in the Rust.
+// The TC, which is checked where it lies, and then STALE, as in the Rust.
+fn check_received_tc(
+    members: &[u32],
+    need: Stake,
+    current: Round,
+    part: &[u8],
+    round: Round,
+) -> Result<Signers, Refusal>
+    ensures { Passes (tc_event_number current.0 round.0 (tc_check members.now need.0 part.now)) (signers_of (tc_check members.now need.0 part.now)) result }
+{
+    match check_tc(members, need, part) {
+        Ok(_) if round.0 < current.0 => Err(Refusal::Stale),
+        Ok(names) => Ok(names),
+        Err(e) => Err(e.refusal(Refusal::TcRequiresQuorum)),
+    }
+}
+
 pub fn handle_tc(
     members: &[u32],
     own: Place,
@@ -171,29 +197,20 @@ pub fn handle_tc(
     ensures { Reached handle_tc_most (handled_tc members.now own.0 (whole core votes.old timeouts.old) round.0 input.now) out.old 0 result votes.new timeouts.new out.new }
 {
     let part = tc_part(input, TC_BODY);
-    let c = check_tc(members, need, part);
-    let k = number_of(c, TC_REQUIRES_QUORUM);
-    if k != 0 {
-        return Ran {
-            answer: k,
+    match check_received_tc(members, need, core.round, part, round) {
+        Ok(names) => {
+            let a = take_tc(members, own, core, votes, timeouts, out, part, round, names);
+            Ran {
+                answer: Ok(()),
+                core: a.core,
+                at: a.at,
+            }
+        }
+        Err(refusal) => Ran {
+            answer: Err(refusal),
             core,
             at: 0,
-        };
-    }
-    if round.0 < core.round.0 {
-        return Ran {
-            answer: STALE,
-            core,
-            at: 0,
-        };
-    }
-    let names = signers_of(c);
-    let a = take_tc(members, own, core, votes, timeouts, out, part, round, names);
-    let n = a.core;
-    Ran {
-        answer: DONE,
-        core: n,
-        at: a.at,
+        },
     }
 }
 
@@ -232,27 +249,26 @@ fn own_timeout(
     requires { Sound members.now own.0 votes.old timeouts.old × (need.0 ≡ quorum_of members.now) × (core.round.0 ≤ round_max) × (at + time_out_most ≤ length out.old) }
     ensures { Reached time_out_most (own_timeout members.now own.0 (whole core votes.old timeouts.old)) out.old at result votes.new timeouts.new out.new }
 {
-    let n = author_number(check_author(members, own, YES));
-    if n != 0 {
-        return Ran {
-            answer: n,
+    match check_author(members, own, YES) {
+        Ok(_) => count_timeout(
+            members,
+            own,
+            need,
+            core,
+            votes,
+            timeouts,
+            out,
+            at,
+            core.round,
+            own,
+            core.high_qc.round,
+        ),
+        Err(e) => Ran {
+            answer: Err(Refusal::from(e)),
             core,
             at,
-        };
+        },
     }
-    count_timeout(
-        members,
-        own,
-        need,
-        core,
-        votes,
-        timeouts,
-        out,
-        at,
-        core.round,
-        own,
-        core.high_qc.round,
-    )
 }
 
 pub fn local_timeout_round(
@@ -269,7 +285,7 @@ pub fn local_timeout_round(
 {
     if ROUND_MAX < core.round.0 {
         return Ran {
-            answer: ROUND_TOO_HIGH,
+            answer: Err(Refusal::RoundTooHigh),
             core,
             at: 0,
         };

@@ -1,6 +1,7 @@
 // VOTE, and the vote for a block: handle_vote, make_vote.
 ghost use Rattle.std.specs.Prelude.{◌≡◌, ◌+◌, ◌≤◌, ◌<◌, length};
 ghost use Rattle.certificates.specs.Config.{stake_of, quorum_of};
+ghost use Rattle.certificates.specs.Error.{number};
 ghost use Rattle.certificates.specs.Numbers.{round_max};
 ghost use Rattle.moves.specs.State.{whole};
 ghost use Rattle.moves.specs.Outcome.{Reached};
@@ -10,26 +11,27 @@ ghost use Rattle.handlers.specs.Sound.{Sound};
 ghost use Rattle.handlers.specs.Votes.{vote_check, handled_vote, extends, may_vote, own_vote, voted, voting, voting_most};
 
 use crate::checks::YES;
-use aggregator::tallies::{Added, add_vote};
+use aggregator::tallies::add_vote;
 use certificates::config::stake;
-use certificates::error::{DONE, STALE, author_number};
+use certificates::error::{Answer, Refusal};
 use certificates::leader::get_leader;
 use certificates::messages::{QC, check_author};
 use certificates::numbers::{Hash, Place, Round, Stake};
 use moves::rounds::certify;
 use moves::state::{Core, Ran};
-use moves::tallies::added_number;
+use moves::tallies::added_answer;
 use outputs::records::put_vote;
 use trace::events::{Block, Vote};
 
-// STALE, the author, the verdict: 0 where all are passed.
-fn vote_check(members: &[u32], current: Round, v: Vote) -> u16
-    ensures { result ≡ vote_check members.now current.0 v }
+// STALE, the author, the verdict.
+fn vote_check(members: &[u32], current: Round, v: Vote) -> Answer
+    ensures { number result ≡ vote_check members.now current.0 v }
 {
     if v.round.0 < current.0 {
-        return STALE;
+        return Err(Refusal::Stale);
     }
-    author_number(check_author(members, v.author, v.verdict))
+    check_author(members, v.author, v.verdict)?;
+    Ok(())
 }
 
 // A vote of a member counted in its tally; at the quorum its QC is taken. The state is handed on only
@@ -52,28 +54,27 @@ fn count_vote(
 {
     let held = stake(members, author);
     let a = add_vote(votes, round, hash, author, held, need);
-    if let Added::Full(_, signers) = a {
+    if let Ok(Some(quorum)) = a {
         let qc = QC {
             hash,
             round,
-            signers,
+            signers: quorum.signers,
         };
         let m = certify(members, own, core, votes, timeouts, out, at, qc);
         return Ran {
-            answer: DONE,
+            answer: Ok(()),
             core: m.core,
             at: m.at,
         };
     }
     Ran {
-        answer: added_number(a),
+        answer: added_answer(a),
         core,
         at,
     }
 }
 
-// A vote that passes the checks is counted. Any other is answered by their number, and leaves
-// everything as it was.
+// A vote that passes the checks is counted. Any other is refused, and leaves everything as it was.
 pub fn handle_vote(
     members: &[u32],
     own: Place,
@@ -87,17 +88,16 @@ pub fn handle_vote(
     requires { Sound members.now own.0 votes.old timeouts.old × (need.0 ≡ quorum_of members.now) × (v.round.0 ≤ round_max) × (certify_most ≤ length out.old) }
     ensures { Reached certify_most (handled_vote members.now own.0 (whole core votes.old timeouts.old) v) out.old 0 result votes.new timeouts.new out.new }
 {
-    let n = vote_check(members, core.round, v);
-    if n != DONE {
-        return Ran {
-            answer: n,
+    match vote_check(members, core.round, v) {
+        Ok(()) => count_vote(
+            members, own, need, core, votes, timeouts, out, 0, v.hash, v.round, v.author,
+        ),
+        Err(refusal) => Ran {
+            answer: Err(refusal),
             core,
             at: 0,
-        };
+        },
     }
-    count_vote(
-        members, own, need, core, votes, timeouts, out, 0, v.hash, v.round, v.author,
-    )
 }
 
 // The block extends its QC's round, or a TC's whose high rounds are not above the QC's.
@@ -105,16 +105,8 @@ fn is_extending(b: Block) -> bool
     requires { (b.qc_round.0 ≤ round_max) × (b.tc_round.0 ≤ round_max) }
     ensures { result ≡ extends b }
 {
-    if b.qc_round.0 + 1 == b.round.0 {
-        return true;
-    }
-    if b.tc == 0 {
-        return false;
-    }
-    if b.tc_round.0 + 1 == b.round.0 {
-        return b.tc_high.0 <= b.qc_round.0;
-    }
-    false
+    b.qc_round.0 + 1 == b.round.0
+        || b.tc != 0 && b.tc_round.0 + 1 == b.round.0 && b.tc_high.0 <= b.qc_round.0
 }
 
 // Both rules: safety_rule_1 and safety_rule_2.
@@ -122,10 +114,7 @@ fn may_vote(core: Core, b: Block) -> bool
     requires { (b.qc_round.0 ≤ round_max) × (b.tc_round.0 ≤ round_max) }
     ensures { result ≡ may_vote core b }
 {
-    if core.last_voted_round.0 < b.round.0 {
-        return is_extending(b);
-    }
-    false
+    core.last_voted_round.0 < b.round.0 && is_extending(b)
 }
 
 // VOTE's steps from the author on for the own vote, verdict yes.
@@ -143,17 +132,16 @@ fn own_vote(
     requires { Sound members.now own.0 votes.old timeouts.old × (need.0 ≡ quorum_of members.now) × (b.round.0 ≤ round_max) × (at + certify_most ≤ length out.old) }
     ensures { Reached certify_most (own_vote members.now own.0 b (whole core votes.old timeouts.old)) out.old at result votes.new timeouts.new out.new }
 {
-    let n = author_number(check_author(members, own, YES));
-    if n != DONE {
-        return Ran {
-            answer: n,
+    match check_author(members, own, YES) {
+        Ok(_) => count_vote(
+            members, own, need, core, votes, timeouts, out, at, b.digest, b.round, own,
+        ),
+        Err(e) => Ran {
+            answer: Err(Refusal::from(e)),
             core,
             at,
-        };
+        },
     }
-    count_vote(
-        members, own, need, core, votes, timeouts, out, at, b.digest, b.round, own,
-    )
 }
 
 // Last voted becomes the block's round, and VOTE is written to the next round's leader. Where that is
@@ -172,25 +160,21 @@ fn send_vote(
     requires { Sound members.now own.0 votes.old timeouts.old × (need.0 ≡ quorum_of members.now) × (b.round.0 ≤ round_max) × (at + voting_most ≤ length out.old) }
     ensures { Reached voting_most (voted members.now own.0 b (whole core votes.old timeouts.old)) out.old at result votes.new timeouts.new out.new }
 {
-    let round = b.round;
     let mut n = core;
-    n.last_voted_round = round;
-    let next = Round(round.0 + 1);
-    let next_leader = get_leader(members, next);
-    let hash = b.digest;
-    let end = put_vote(out, at, next_leader, hash, round);
+    n.last_voted_round = b.round;
+    let next_leader = get_leader(members, Round(b.round.0 + 1));
+    let end = put_vote(out, at, next_leader, b.digest, b.round);
     if next_leader.0 == own.0 {
         return own_vote(members, own, need, n, votes, timeouts, out, end, b);
     }
     Ran {
-        answer: DONE,
+        answer: Ok(()),
         core: n,
         at: end,
     }
 }
 
-// A vote for the block, if its round is the current one and the rules allow it. Else DONE, and
-// nothing is done.
+// A vote for the block, if its round is the current one and the rules allow it. Else nothing is done.
 pub fn make_vote(
     members: &[u32],
     own: Place,
@@ -205,18 +189,11 @@ pub fn make_vote(
     requires { Sound members.now own.0 votes.old timeouts.old × (need.0 ≡ quorum_of members.now) × (b.round.0 ≤ round_max) × (b.qc_round.0 ≤ round_max) × (b.tc_round.0 ≤ round_max) × (at + voting_most ≤ length out.old) }
     ensures { Reached voting_most (voting members.now own.0 b (whole core votes.old timeouts.old)) out.old at result votes.new timeouts.new out.new }
 {
-    if b.round.0 == core.round.0 {
-        if may_vote(core, b) {
-            return send_vote(members, own, need, core, votes, timeouts, out, at, b);
-        }
-        return Ran {
-            answer: DONE,
-            core,
-            at,
-        };
+    if b.round.0 == core.round.0 && may_vote(core, b) {
+        return send_vote(members, own, need, core, votes, timeouts, out, at, b);
     }
     Ran {
-        answer: DONE,
+        answer: Ok(()),
         core,
         at,
     }

@@ -1,11 +1,10 @@
--- `handlers::votes::own_vote` meets its contract: an early answer leaves everything; a vote whose check is passed is counted.
--- Assumes nothing.
+-- `handlers::votes::own_vote` meets its contract: without stake it is refused; else it is counted. Assumes nothing.
 use borrow.Author.Rules.{rules}
 use Rattle.handlers.proofs.VoteLaws.{own-vote-refused, own-vote-passed}
 use Rattle.handlers.proofs.votes.own_vote.Goals as goal
 
-pub returns-then-n-ne-DONE : goal.returns-then-n-ne-DONE
-returns-then-n-ne-DONE c = search (rules, own-vote-refused)
+pub returns-in-Ok : goal.returns-in-Ok
+returns-in-Ok c = search (rules, own-vote-passed)
 
-pub returns : goal.returns
-returns c = search (rules, own-vote-passed)
+pub returns-in-Err : goal.returns-in-Err
+returns-in-Err c = search (rules, own-vote-refused)
