@@ -57,6 +57,7 @@ pub struct Ahead {
 }
 
 // A front that is cut: a length above the most ends the run, and else more may come.
+#[tactic(auto, using(crate::proofs::Fronts::cut_long, crate::proofs::Fronts::cut_more))]
 fn cut_met(part: &[u8]) -> Met
     ensures { result ≡ cut_met part.now }
 {
