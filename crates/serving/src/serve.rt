@@ -8,7 +8,7 @@ ghost use Rattle.serving.specs.Bytes.{Passes};
 
 use crate::input::refill;
 use crate::output::{close, deliver, flush};
-use crate::state::{ENDED, NO_ROOM, Served, Serving, ended, fresh, goes_on, passed, run_of, told};
+use crate::state::{Mode, Served, Serving, Why};
 use aggregator::tallies::{TIMEOUT_TALLIES, TIMEOUT_WIDTH, VOTE_TALLIES, VOTE_WIDTH};
 use buffers::streams::large_buffer;
 use certificates::config::MEMBERS_MAX;
@@ -17,7 +17,7 @@ use certificates::numbers::{Hash, Round};
 use outputs::records::{ANSWER_SIZE, put_answer};
 use std::io::{Read, Write};
 use synchronizer::table::Slot;
-use turns::turn::{ANSWERED, MORE, Turned, turn};
+use turns::turn::{Met, Turned, turn};
 
 // 01, The trace form: "with a 256-slot table"; and the bytes of the output buffer.
 pub const SLOTS: usize = 256;
@@ -38,7 +38,7 @@ fn cut<E: Read, W: Write>(
         return s;
     }
     if out.len() < ANSWER_SIZE {
-        return ended(s, NO_ROOM);
+        return s.ended(Why::NoRoom);
     }
     let n = put_answer(out, 0, BAD_RECORD);
     deliver(expected, output, out, pack, n, s)
@@ -57,11 +57,11 @@ fn more<R: Read, E: Read, W: Write>(
     ensures { Passes s buf.old result buf.new }
 {
     let u = flush(output, pack, s);
-    if ENDED < u.why {
+    if u.why.is_fault() {
         return u;
     }
     let v = refill(input, buf, u);
-    if v.why == ENDED {
+    if v.why == Why::Ended {
         return cut(expected, output, out, pack, v);
     }
     v
@@ -80,15 +80,12 @@ pub(crate) fn moved<R: Read, E: Read, W: Write>(
 ) -> Serving
     ensures { Passes (passed_by s t) buf.old result buf.new }
 {
-    let u = passed(s, t);
-    if t.met == MORE {
-        return more(input, expected, output, out, buf, pack, u);
+    let u = s.passed(t);
+    match t.met {
+        Met::More => more(input, expected, output, out, buf, pack, u),
+        Met::Answered => deliver(expected, output, out, pack, t.written, u),
+        Met::TooLong => deliver(expected, output, out, pack, t.written, u).ended(Why::Ended),
     }
-    let v = deliver(expected, output, out, pack, t.written, u);
-    if t.met == ANSWERED {
-        return v;
-    }
-    ended(v, ENDED)
 }
 
 // Turn after turn, to the end of the run. Nothing says that the input ends, so the turns are counted
@@ -110,11 +107,9 @@ pub fn serve<R: Read, E: Read, W: Write>(
     ensures { result.turns ≡ 0 }
 {
     let mut u = s;
-    while goes_on(u) {
-        let run = run_of(u);
-        let t = turn(stakes, votes, timeouts, table, out, buf, run);
-        let v = moved(input, expected, output, out, buf, pack, u, t);
-        u = v;
+    while 0 < u.turns {
+        let t = turn(stakes, votes, timeouts, table, out, buf, u.run);
+        u = moved(input, expected, output, out, buf, pack, u, t);
     }
     u
 }
@@ -168,15 +163,13 @@ pub(crate) fn serve_in<R: Read, E: Read, W: Write>(
 }
 
 // A replica that was not started plays the trace that is read from `input`, to its end; what it
-// writes goes to `output`, or is compared with what is read from `expected`. Of a PART, `left` and
+// writes goes to `output`, or is compared with what is read from `expected`. Of a part, `left` and
 // `due` are the bytes that the trace and what is expected have.
 pub fn serve_new<R: Read, E: Read, W: Write>(
     input: &mut R,
     expected: &mut E,
     output: &mut W,
-    mode: u8,
-    left: u64,
-    due: u64,
+    mode: Mode,
 ) -> Served {
     let mut stakes = [0u32; MEMBERS_MAX];
     let mut votes = [0u64; VOTE_TALLIES * VOTE_WIDTH];
@@ -184,7 +177,7 @@ pub fn serve_new<R: Read, E: Read, W: Write>(
     let mut out = out_buffer();
     let mut buf = large_buffer();
     let mut pack = large_buffer();
-    let s = fresh(mode, left, due);
+    let s = Serving::fresh(mode);
     let u = serve_in(
         input,
         expected,
@@ -197,5 +190,5 @@ pub fn serve_new<R: Read, E: Read, W: Write>(
         &mut pack,
         s,
     );
-    told(close(expected, output, &pack, u))
+    close(expected, output, &pack, u).told()
 }
