@@ -4,6 +4,7 @@ ghost use Rattle.serving.specs.declared.state.Mode.TheVariants.{Write};
 ghost use Rattle.serving.specs.Bytes.{Flushes, Delivers};
 
 use crate::state::{Mode, Serving, Why};
+use crate::streams::Streams;
 use buffers::streams::read_full;
 use buffers::{alike, copy};
 use std::io::{Read, Write};
@@ -73,9 +74,8 @@ fn compare<E: Read>(expected: &mut E, out: &[u8], pack: &mut [u8], n: usize, s: 
 }
 
 // The first n bytes of out are a turn's output.
-pub(crate) fn deliver<E: Read, W: Write>(
-    expected: &mut E,
-    output: &mut W,
+pub(crate) fn deliver<R, E: Read, W: Write>(
+    streams: &mut Streams<R, E, W>,
     out: &[u8],
     pack: &mut [u8],
     n: usize,
@@ -87,24 +87,23 @@ pub(crate) fn deliver<E: Read, W: Write>(
         return s.ended(Why::NoRoom);
     }
     match s.mode {
-        Mode::Write => hold(output, out, pack, n, s),
-        Mode::File | Mode::Part { .. } => compare(expected, out, pack, n, s),
+        Mode::Write => hold(&mut streams.output, out, pack, n, s),
+        Mode::File | Mode::Part { .. } => compare(&mut streams.expected, out, pack, n, s),
     }
 }
 
 // At the end what waits is written out, and nothing more may be expected.
-pub(crate) fn close<E: Read, W: Write>(
-    expected: &mut E,
-    output: &mut W,
+pub(crate) fn close<R, E: Read, W: Write>(
+    streams: &mut Streams<R, E, W>,
     pack: &[u8],
     s: Serving,
 ) -> Serving {
     match s.mode {
-        Mode::Write => flush(output, pack, s),
+        Mode::Write => flush(&mut streams.output, pack, s),
         Mode::Part { due: 0, .. } => s,
         Mode::Part { .. } => s.ended(Why::Differs),
         Mode::File => {
-            if read_full(expected, &mut [0]) == 0 {
+            if read_full(&mut streams.expected, &mut [0]) == 0 {
                 return s;
             }
             s.ended(Why::Differs)
