@@ -9,7 +9,7 @@ ghost use Rattle.std.specs.Prelude.{◌+◌, ◌≤◌, length};
 
 use buffers::shift;
 use buffers::streams::{large_buffer, read_some};
-use certificates::error::BAD_RECORD;
+use certificates::error::{Refusal, number};
 use outputs::records::{ANSWER_SIZE, put_answer};
 use std::io::{Read, Write};
 
@@ -34,7 +34,7 @@ fn refuse<W: Write>(output: &mut W, out: &mut [u8]) {
     if out.len() < ANSWER_SIZE {
         return;
     }
-    let n = put_answer(out, 0, BAD_RECORD);
+    let n = put_answer(out, 0, number(Err(Refusal::BadRecord)));
     let _ = output.write_all(&out[..n]);
 }
 
