@@ -1,4 +1,3 @@
 -- The laws of the loops.
-pub mod Moves
 pub mod Sums
 pub mod Taken

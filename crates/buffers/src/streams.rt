@@ -21,10 +21,7 @@ pub fn read_some<R: Read>(from: &mut R, room: &mut [u8]) -> usize
     ensures bound { result ≤ length room.old }
     ensures bytes { Consumes (R.remaining from.old) (R.remaining from.new) (take result room.new) }
 {
-    match from.read(room) {
-        Ok(n) => n,
-        Err(_) => 0,
-    }
+    from.read(room).unwrap_or(0)
 }
 
 // Reads until buf is full, the input ends or a read fails. The bytes taken off the reader stand at the

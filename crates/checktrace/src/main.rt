@@ -9,7 +9,7 @@ ghost use Rattle.std.specs.Prelude.{◌+◌, ◌≤◌, length};
 
 use buffers::shift;
 use buffers::streams::{large_buffer, read_some};
-use certificates::error::BAD_RECORD;
+use certificates::error::{Refusal, number};
 use outputs::records::{ANSWER_SIZE, put_answer};
 use std::io::{Read, Write};
 
@@ -18,15 +18,6 @@ use std::io::{Read, Write};
 struct State {
     start: usize,
     have: usize,
-    done: bool,
-}
-
-fn end() -> State {
-    State {
-        start: 0,
-        have: 0,
-        done: true,
-    }
 }
 
 // One read into buf from `have` on, and how many bytes it brought: 0 at the end of the input, or
@@ -39,96 +30,81 @@ fn fill<R: Read>(input: &mut R, buf: &mut [u8], have: usize) -> usize
 }
 
 // The answer to a record that is cut or too long, after which the run ends.
-fn refuse<W: Write>(output: &mut W, out: &mut [u8]) -> State {
+fn refuse<W: Write>(output: &mut W, out: &mut [u8]) {
     if out.len() < ANSWER_SIZE {
-        return end();
+        return;
     }
-    let n = put_answer(out, 0, BAD_RECORD);
-    let _ = output.write_all(&out[0..n]);
-    end()
+    let n = put_answer(out, 0, number(Err(Refusal::BadRecord)));
+    let _ = output.write_all(&out[..n]);
 }
 
 // No whole record is left: more is read, after what is left of the trace was moved to the front.
+// Nothing where the run ends.
 fn refill<R: Read, W: Write>(
     input: &mut R,
     output: &mut W,
     buf: &mut [u8],
     out: &mut [u8],
-    start: usize,
-    have: usize,
-) -> State
-    requires { (start ≤ have) × (have ≤ length buf.old) }
+    s: State,
+) -> Option<State>
+    requires { (s.start ≤ s.have) × (s.have ≤ length buf.old) }
 {
-    let kept = shift(buf, start, have);
-    if forms::is_too_long(&buf[0..kept]) {
-        return refuse(output, out);
+    let kept = shift(buf, s.start, s.have);
+    if forms::is_too_long(&buf[..kept]) {
+        refuse(output, out);
+        return None;
     }
     let n = fill(input, buf, kept);
     if n == 0 {
-        if kept == 0 {
-            return end();
+        if kept != 0 {
+            refuse(output, out);
         }
-        return refuse(output, out);
+        return None;
     }
-    State {
+    Some(State {
         start: 0,
         have: kept + n,
-        done: false,
-    }
+    })
 }
 
-// Answers the whole records in the buffer, or reads more where there is none. The bounds that are
-// tested here hold in every run; the tests take the place of an invariant on the state.
+// Answers the whole records in the buffer, or reads more where there is none. Nothing where the run
+// ends. The bounds that are tested here hold in every run; the tests take the place of an invariant
+// on the state.
 fn step<R: Read, W: Write>(
     input: &mut R,
     output: &mut W,
     buf: &mut [u8],
     out: &mut [u8],
     s: State,
-) -> State {
-    let start = s.start;
-    let have = s.have;
-    if buf.len() < have {
-        return end();
-    }
-    if have < start {
-        return end();
+) -> Option<State> {
+    let State { start, have } = s;
+    if buf.len() < have || have < start {
+        return None;
     }
     let ran = forms::run(&buf[start..have], out);
-    let written = ran.written;
-    let used = ran.used;
-    if used == 0 {
-        return refill(input, output, buf, out, start, have);
+    if ran.used == 0 {
+        return refill(input, output, buf, out, s);
     }
-    if out.len() < written {
-        return end();
+    if out.len() < ran.written || have - start < ran.used {
+        return None;
     }
-    if have - start < used {
-        return end();
-    }
-    let ok = output.write_all(&out[0..written]).is_ok();
-    State {
-        start: start + used,
+    output.write_all(&out[..ran.written]).ok()?;
+    Some(State {
+        start: start + ran.used,
         have,
-        done: !ok,
-    }
+    })
 }
 
-// A proved loop has to end, and nothing says that the input does, so the turns are counted down.
-// Each turn takes a record of two bytes or more, reads a byte or more, or ends the run: a trace of
-// n bytes takes at most 1.5 n + 1 turns, and these are enough for 10^19 bytes.
+// A proved loop has to end, and nothing says that the input does, so the turns are counted. Each
+// takes a record of two bytes or more, reads a byte or more, or ends the run: a trace of n bytes
+// takes at most 1.5 n + 1 turns, and these are enough for 10^19 bytes.
 fn run_all<R: Read, W: Write>(input: &mut R, output: &mut W, buf: &mut [u8], out: &mut [u8]) {
-    let mut s = State {
-        start: 0,
-        have: 0,
-        done: false,
-    };
-    let mut done = false;
-    let mut turns = u64::MAX;
-    while turns > 0 && !done {
-        s = step(input, output, buf, out, s);
-        done = s.done;
-        turns -= 1;
+    let mut s = State { start: 0, have: 0 };
+    for _ in 0..u64::MAX {
+        match step(input, output, buf, out, s) {
+            Some(next) => s = next,
+            None => return,
+        }
     }
 }
 

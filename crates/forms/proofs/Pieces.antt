@@ -13,14 +13,14 @@ use Rattle.trace.specs.declared.record.Front.{Front}
 use Rattle.trace.specs.declared.record.Front.TheVariants.{End, Cut, Small, Record}
 use Rattle.trace.proofs.FrontLaws.{front-append, record-append}
 use Rattle.std.specs.Prelude.{Option, Some, None}
-use Rattle.forms.specs.declared.Answer.{Answer}
+use Rattle.forms.specs.declared.Answered.{Answered}
 use Rattle.forms.specs.Numbers.{by_front, answer_of}
 use Rattle.forms.specs.Run.{numbers_of, used_of}
 use Rattle.forms.proofs.Turns.{answer-within}
 use Rattle.forms.proofs.Runs.{numbers-none, used-none, numbers-some, used-some}
 
 module _ (t : List ℕ) where
-  by_front_lem : (s : List ℕ) (f : Front) {a : Answer} → f ≡ split_of s → Some a ≡ by_front f s → Some a ≡ answer_of (s ++ t)
+  by_front_lem : (s : List ℕ) (f : Front) {a : Answered} → f ≡ split_of s → Some a ≡ by_front f s → Some a ≡ answer_of (s ++ t)
   unfolding answer_of
   by_front_lem s End p q = absurd (cc)
   by_front_lem s Cut p q = absurd (cc)
@@ -28,14 +28,14 @@ module _ (t : List ℕ) where
   by_front_lem s (Record kind e) p q =
       rw (← front-append s t (Record kind e) tt p, record-append s t (Record kind e) tt p) q
 
-  pub answer-append : (s : List ℕ) {a : Answer} → Some a ≡ answer_of s → Some a ≡ answer_of (s ++ t)
+  pub answer-append : (s : List ℕ) {a : Answered} → Some a ≡ answer_of s → Some a ≡ answer_of (s ++ t)
   unfolding answer_of
   answer-append s p = by_front_lem s (split_of s) refl p
 
   abbrev pub InPieces : ℕ → List ℕ → Type 0
   InPieces n s = numbers_of n (s ++ t) ≡ numbers_of n s ++ numbers_of (n - length (numbers_of n s)) (drop (used_of n s) (s ++ t))
 
-  by_answer : (n : ℕ) (s : List ℕ) (f : Option Answer) → f ≡ answer_of s → ((r : List ℕ) → InPieces n r) → InPieces (suc n) s
+  by_answer : (n : ℕ) (s : List ℕ) (f : Option Answered) → f ≡ answer_of s → ((r : List ℕ) → InPieces n r) → InPieces (suc n) s
   by_answer n s None p more =
       let z : suc n - 0 ≡ suc n = omega arith in
       rw (numbers-none s p (suc n) refl, used-none s p (suc n) refl, z)

@@ -14,12 +14,12 @@ use Rattle.outputs.specs.Put.{Put, Wrote}
 use Rattle.outputs.specs.Records.{answer, enc, answer_size}
 use Rattle.outputs.proofs.Wrote.{wrote_none, wrote_one, wrote_then}
 use Rattle.std.specs.Prelude.{Option, Some, None}
-use Rattle.forms.specs.declared.Answer.{Answer}
+use Rattle.forms.specs.declared.Answered.{Answered}
 use Rattle.forms.specs.Numbers.{answer_of}
 use Rattle.forms.specs.Run.{numbers_of, used_of, room_in, RanIs}
 use Rattle.forms.proofs.Turns.{answer-within}
 
-module _ (s : List ℕ) {f : Option Answer} (p : f ≡ answer_of s) where
+module _ (s : List ℕ) {f : Option Answered} (p : f ≡ answer_of s) where
   pub numbers-none : (n : ℕ) → f ≡ None → numbers_of n s ≡ []
   unfolding numbers_of
   numbers-none zero q = refl
@@ -30,11 +30,11 @@ module _ (s : List ℕ) {f : Option Answer} (p : f ≡ answer_of s) where
   used-none zero q = refl
   used-none (suc n) q = let h = used-none n q in rw (← p, q) (omega arith)
 
-  pub numbers-some : (n : ℕ) {a : Answer} → f ≡ Some a → numbers_of (suc n) s ≡ a.number ∷ numbers_of n (drop a.end s)
+  pub numbers-some : (n : ℕ) {a : Answered} → f ≡ Some a → numbers_of (suc n) s ≡ a.number ∷ numbers_of n (drop a.end s)
   unfolding numbers_of
   numbers-some n q = rw (← p, q)
 
-  pub used-some : (n : ℕ) {a : Answer} → f ≡ Some a → used_of (suc n) s ≡ a.end + used_of n (drop a.end s)
+  pub used-some : (n : ℕ) {a : Answered} → f ≡ Some a → used_of (suc n) s ≡ a.end + used_of n (drop a.end s)
   unfolding used_of
   used-some n q = rw (← p, q)
 
@@ -68,14 +68,14 @@ start trace out =
 
 module _ {trace before after t : List ℕ} {used at : ℕ} (g : Going trace before after t used at) where
   -- the record to be answered lies in the trace
-  pub in-trace : {f : Option Answer} {a : Answer} → f ≡ answer_of t → f ≡ Some a → (2 ≤ a.end) × (used + a.end ≤ length trace)
+  pub in-trace : {f : Option Answered} {a : Answered} → f ≡ answer_of t → f ≡ Some a → (2 ≤ a.end) × (used + a.end ≤ length trace)
   in-trace p q =
       let b = answer-within t p q in
       let n : length t ≡ length trace - used = ap length g.rest ∙ length-drop used trace in
       omega arith
 
   -- an answer
-  pub answered : {f : Option Answer} {a : Answer} {next : ℕ} {later : List ℕ} → f ≡ answer_of t → f ≡ Some a → answer_size ≤ length after - at
+  pub answered : {f : Option Answered} {a : Answered} {next : ℕ} {later : List ℕ} → f ≡ answer_of t → f ≡ Some a → answer_size ≤ length after - at
       → Put after at answer_size (enc (answer a.number)) later next → length later ≡ length after
       → Going trace before later (take (length t - a.end) (drop a.end t)) (used + a.end) next
   answered {f} {a} {next} p q r put l =
@@ -106,7 +106,7 @@ module _ {trace before after t : List ℕ} {used at : ℕ} (g : Going trace befo
   ended : numbers_of g.left t ≡ [] → ◌≡◌ {A = ℕ} (used_of g.left t) 0 → RanIs trace before after (record { used = used; written = at })
   ended n u = record { wrote = rw (g.all, n, append-nil) g.wrote; taken = omega (arith, g.taken) }
 
-  pub stopped : {f : Option Answer} → f ≡ answer_of t → f ≡ None → RanIs trace before after (record { used = used; written = at })
+  pub stopped : {f : Option Answered} → f ≡ answer_of t → f ≡ None → RanIs trace before after (record { used = used; written = at })
   stopped p q = ended (numbers-none t p g.left q) (used-none t p g.left q)
 
   pub filled : length after - at < answer_size → RanIs trace before after (record { used = used; written = at })

@@ -8,10 +8,10 @@ use Rattle.trace.specs.declared.record.Front.{Front}
 use Rattle.trace.specs.declared.record.Front.TheVariants.{End, Cut, Small, Record}
 use Rattle.trace.proofs.FrontLaws.{Bounds, front-bounds}
 use Rattle.std.specs.Prelude.{Option, Some, None}
-use Rattle.forms.specs.declared.Answer.{Answer}
+use Rattle.forms.specs.declared.Answered.{Answered}
 use Rattle.forms.specs.Numbers.{by_front, answer_of}
 
-abbrev Within : Option Answer → ℕ → Type 0
+abbrev Within : Option Answered → ℕ → Type 0
 Within None n = Unit
 Within (Some a) n = (2 ≤ a.end) × (a.end ≤ n)
 
@@ -22,7 +22,7 @@ front-within (Small end) s b = b
 front-within (Record kind end) s b = b
 
 -- a record that is answered has 2 bytes or more, and ends in the trace
-pub answer-within : (s : List ℕ) {f : Option Answer} {a : Answer} → f ≡ answer_of s → f ≡ Some a → (2 ≤ a.end) × (a.end ≤ length s)
+pub answer-within : (s : List ℕ) {f : Option Answered} {a : Answered} → f ≡ answer_of s → f ≡ Some a → (2 ≤ a.end) × (a.end ≤ length s)
 unfolding answer_of
 answer-within s p q =
-    subst (λ (f : Option Answer). Within f (length s)) (sym p ∙ q) (front-within (split_of s) s (front-bounds s (split_of s) refl))
+    subst (λ (f : Option Answered). Within f (length s)) (sym p ∙ q) (front-within (split_of s) s (front-bounds s (split_of s) refl))

@@ -14,7 +14,7 @@ use Rattle.trace.specs.Limits.{limit_of}
 use Rattle.trace.specs.declared.record.Front.{Front}
 use Rattle.trace.specs.declared.record.Front.TheVariants.{End, Cut, Small, Record}
 use Rattle.trace.specs.declared.events.Kind.{Kind}
-use Rattle.forms.specs.declared.Answer.{Answer}
+use Rattle.forms.specs.declared.Answered.{Answered}
 
 -- "16 | bad record: unknown kind, wrong body length, verdict or flag out of range"
 abbrev pub by_form : List ℕ → Option Kind → ℕ
@@ -25,13 +25,13 @@ unfoldable pub number_of : List ℕ → ℕ
 number_of r = by_form r (form_of r)
 
 -- "A length above 4,096 or a record cut by the end gets ANSWER 16 and ends the run. Any other bad record gets 16 and the next is read."
-abbrev pub by_front : Front → List ℕ → Option Answer
+abbrev pub by_front : Front → List ℕ → Option Answered
 by_front End s = None
 by_front Cut s = None
 by_front (Small end) s = Some (record { number = bad_record; end = end })
 by_front (Record kind end) s = Some (record { number = number_of (record_of (Record kind end) s); end = end })
 
-unfoldable pub answer_of : List ℕ → Option Answer
+unfoldable pub answer_of : List ℕ → Option Answered
 answer_of s = by_front (split_of s) s
 
 abbrev pub too_long : List ℕ → Bool

@@ -9,14 +9,14 @@ use Rattle.std.specs.Prelude.{ℕ, zero, suc, ◌+◌, ◌/◌, ◌≡◌, List,
 use Rattle.outputs.specs.Put.{Wrote}
 use Rattle.outputs.specs.Records.{answer, answer_size}
 use Rattle.forms.specs.Numbers.{answer_of}
-use Rattle.forms.specs.declared.Answer.{Answer}
+use Rattle.forms.specs.declared.Answered.{Answered}
 use Rattle.forms.specs.declared.Ran.{Ran}
 
-abbrev pub end_of : Option Answer → ℕ
+abbrev pub end_of : Option Answered → ℕ
 end_of None = 0
 end_of (Some a) = a.end
 
-abbrev pub with_first : Option Answer → List ℕ → List ℕ
+abbrev pub with_first : Option Answered → List ℕ → List ℕ
 with_first None ns = []
 with_first (Some a) ns = a.number ∷ ns
 

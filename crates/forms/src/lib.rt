@@ -5,19 +5,20 @@
 #![tactic(auto)]
 
 ghost use Rattle.std.specs.Prelude.{◌≡◌};
+ghost use Rattle.certificates.specs.Error.{number};
 ghost use Rattle.forms.specs.Numbers.{number_of, answer_of, too_long};
 ghost use Rattle.forms.specs.Run.{RanIs};
 
-use certificates::error::BAD_RECORD;
+use certificates::error::{Answer, Refusal, number};
 use certificates::num::u16_at;
 use outputs::records::{ANSWER_SIZE, put_answer};
 use trace::events::{form_of, limit_of};
 use trace::part::middle;
 use trace::record::{Front, RECORD_MAX, split};
 
-// The answer to a record. The next record starts at end.
+// The number of the answer to a record. The next record starts at end.
 #[derive(Clone, Copy, Debug, PartialEq, Eq)]
-pub struct Answer {
+pub struct Answered {
     pub number: u16,
     pub end: usize,
 }
@@ -30,30 +31,29 @@ pub struct Ran {
     pub written: usize,
 }
 
-// The number of a record, its kind and body: 16 without a form, and else the one by its limits.
+// The answer to a record, its kind and body: 16 without a form, and else the one by its limits.
 #[tactic(auto, unfolding(crate::specs::Numbers::number_of))]
-fn number_of(record: &[u8]) -> u16
-    ensures { result ≡ number_of «record».now }
+fn answer_to(record: &[u8]) -> Answer
+    ensures { number result ≡ number_of «record».now }
 {
-    form_of(record).map_or(BAD_RECORD, |kind| limit_of(record, kind))
+    let kind = form_of(record).ok_or(Refusal::BadRecord)?;
+    limit_of(record, kind)
 }
 
 // The answer to the record at the front of a trace: None where there is none, or it is cut.
 #[tactic(auto, unfolding(crate::specs::Numbers::answer_of))]
-pub fn answer_front(trace: &[u8]) -> Option<Answer>
+pub fn answer_front(trace: &[u8]) -> Option<Answered>
     ensures { result ≡ answer_of trace.now }
 {
-    match split(trace) {
-        Front::End | Front::Cut => None,
-        Front::Small { end } => Some(Answer {
-            number: BAD_RECORD,
-            end,
-        }),
-        Front::Record { kind: _, end } => Some(Answer {
-            number: number_of(middle(trace, 2, end)),
-            end,
-        }),
-    }
+    let (answer, end) = match split(trace) {
+        Front::End | Front::Cut => return None,
+        Front::Small { end } => (Err(Refusal::BadRecord), end),
+        Front::Record { kind: _, end } => (answer_to(middle(trace, 2, end)), end),
+    };
+    Some(Answered {
+        number: number(answer),
+        end,
+    })
 }
 
 // Whether the length at the front is above the most, so that no more bytes make a record of it.
@@ -72,7 +72,7 @@ pub fn run(trace: &[u8], out: &mut [u8]) -> Ran
     let mut used = 0;
     let mut at = 0;
     while out.len() - at >= ANSWER_SIZE {
-        let Some(Answer { number, end }) = answer_front(t) else {
+        let Some(Answered { number, end }) = answer_front(t) else {
             break;
         };
         at = put_answer(out, at, number);

@@ -3,9 +3,9 @@
 #![tactic(auto)]
 
 use serving::serve::serve_new;
-use serving::state::WRITE;
+use serving::state::Mode;
 use std::io::empty;
 
 fn main(rt: HostRuntime) {
-    serve_new(&mut rt.stdin(), &mut empty(), &mut rt.stdout(), WRITE, 0, 0);
+    serve_new(&mut rt.stdin(), &mut empty(), &mut rt.stdout(), Mode::Write);
 }

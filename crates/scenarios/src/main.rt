@@ -17,111 +17,73 @@ mod list;
 mod packs;
 
 use buffers::streams::{large_buffer, read_full};
-use files::{open, say, say_number, say_sum, sum_file};
-use list::{Tally, counted, line_end, next_line};
+use files::{open, open_both, say, say_sum};
+use list::Tally;
 use packs::play_pack;
 use serving::serve::serve_new;
-use serving::state::{DIFFERS, ENDED, FILE, Served};
+use serving::state::{Mode, Served, Why};
 use std::io::sink;
 use std::rt::Files;
 
 // What became of a trace.
 fn tell(rt: &impl Print, r: Served) {
-    if r.why == ENDED {
-        say(rt, b": equal");
-    } else if r.why == DIFFERS {
-        say(rt, b": differs at byte ");
-        say_number(rt, r.place);
-    } else {
-        say(rt, b": not played to its end");
-    }
+    let _ = match r.why {
+        Why::Ended => print!(rt; ": equal"),
+        Why::Differs => print!(rt; ": differs at byte {}", r.place),
+        _ => print!(rt; ": not played to its end"),
+    };
 }
 
-// A trace, its expected bytes, and whether they are what the replica writes.
-fn play_open<R: Files + Print>(
-    rt: &R,
-    name: &[u8],
-    input: &mut R::File,
-    expected: &mut R::File,
-) -> bool {
-    let r = serve_new(input, expected, &mut sink(), FILE, 0, 0);
-    tell(rt, r);
-    let a = sum_file(rt, name, b".txt", 0);
-    let b = sum_file(rt, name, b".trace", a);
-    let c = sum_file(rt, name, b".expect", b);
-    say(rt, b", sum ");
-    say_sum(rt, c);
-    say(rt, b"\n");
-    r.why == ENDED
-}
-
-// The same of the trace's name: its two files are opened here.
+// Whether what the replica writes for a trace is what is expected.
 fn play_trace<R: Files + Print>(rt: &R, name: &[u8]) -> bool {
-    let input = open(rt, name, b".trace");
-    let expected = open(rt, name, b".expect");
-    say(rt, name);
-    match input {
-        None => {
-            say(rt, b".trace: missing\n");
-            false
-        }
-        Some(input) => match expected {
-            None => {
-                say(rt, b".expect: missing\n");
-                false
-            }
-            Some(expected) => {
-                let mut input = input;
-                let mut expected = expected;
-                play_open(rt, name, &mut input, &mut expected)
-            }
-        },
-    }
-}
-
-fn play<R: Files + Print>(rt: &R, name: &[u8], packs: bool) -> bool {
-    if packs {
-        return play_pack(rt, name);
-    }
-    play_trace(rt, name)
+    let Some((mut input, mut expected)) = open_both(rt, name, ".trace", ".expect") else {
+        return false;
+    };
+    let r = serve_new(&mut input, &mut expected, &mut sink(), Mode::File);
+    tell(rt, r);
+    say_sum(rt, name, &[".txt", ".trace", ".expect"]);
+    r.why == Why::Ended
 }
 
 // Each line of a list names a trace, or a pack.
-fn play_all<R: Files + Print>(rt: &R, names: &[u8], packs: bool, before: Tally) -> Tally {
+fn play_all<R: Files + Print, P: Fn(&R, &[u8]) -> bool>(
+    rt: &R,
+    names: &[u8],
+    play: &P,
+    before: Tally,
+) -> Tally
+    requires { P.IsAlwaysCallable play.now }
+{
     let mut tally = before;
-    let mut at = 0;
-    while at < names.len() {
-        let end = line_end(names, at);
-        let equal = play(rt, &names[at..end], packs);
-        tally = counted(tally, equal);
-        at = next_line(end, names.len());
+    for line in names.split_inclusive(|byte| *byte == b'\n') {
+        let name = line.strip_suffix(b"\n").unwrap_or(line);
+        tally = tally.counted(play(rt, name));
     }
     tally
 }
 
 // A list of names, of one file.
-fn play_list<R: Files + Print>(rt: &R, file: &[u8], packs: bool, before: Tally) -> Tally {
+fn play_list<R: Files + Print, P: Fn(&R, &[u8]) -> bool>(
+    rt: &R,
+    file: &[u8],
+    play: &P,
+    before: Tally,
+) -> Tally
+    requires { P.IsAlwaysCallable play.now }
+{
     let mut names = large_buffer();
-    match open(rt, file, b".list") {
-        None => {
-            say(rt, file);
-            say(rt, b".list: missing\n");
-            counted(before, false)
-        }
-        Some(input) => {
-            let mut input = input;
-            let n = read_full(&mut input, &mut names);
-            play_all(rt, &names[..n], packs, before)
-        }
-    }
+    let Some(mut input) = open(rt, file, ".list") else {
+        say(rt, file);
+        let _ = println!(rt; ".list: missing");
+        return before.counted(false);
+    };
+    let n = read_full(&mut input, &mut names);
+    play_all(rt, &names[..n], play, before)
 }
 
 fn main(rt: HostRuntime) {
     let none = Tally { all: 0, equal: 0 };
-    let traces = play_list(&rt, b"traces", false, none);
-    let both = play_list(&rt, b"packs", true, traces);
-    say_number(&rt, both.equal);
-    say(&rt, b" of ");
-    say_number(&rt, both.all);
-    say(&rt, b" equal\n");
+    let traces = play_list(&rt, b"traces", &play_trace, none);
+    let both = play_list(&rt, b"packs", &play_pack, traces);
+    let _ = println!(rt; "{} of {} equal", both.equal, both.all);
 }

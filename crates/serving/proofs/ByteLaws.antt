@@ -10,10 +10,26 @@ use lib.ListN.{length, take, drop, length-append, length-take}
 use lib.Seq.{length-take-le, take-nil, take-length, take-take, take_at, paste}
 use Rattle.buffers.specs.Buffers.{Alike}
 use Rattle.serving.specs.declared.state.Serving.{Serving}
-use Rattle.serving.specs.declared.state.Got.{Got}
-use Rattle.serving.specs.State.{gained_by, brought_by, judged_by, not_read, write, part, ended, differs, ended_by, allowed, met_by, held_by, further_by}
-use Rattle.serving.specs.Bytes.{unread, Kept, Refills, Flushes, Delivers}
-use Rattle.serving.proofs.StateLaws.{allowed-part, rest-less, ended-at-least}
+use Rattle.serving.specs.declared.state.Mode.{Mode}
+use Rattle.serving.specs.declared.state.Mode.TheVariants.{Write, File, Part}
+use Rattle.serving.specs.declared.state.Why.{Why}
+use Rattle.serving.specs.declared.state.Why.TheVariants.{Ended, NotRead, Differs}
+use Rattle.serving.specs.State.{rank, readable_of, read_by, end_of, gained_by, brought_by, judged_by, ended_by, met_by, held_by, further_by}
+use Rattle.std.specs.Prelude.{Option, Some, None, unwrap_or}
+use Rattle.serving.specs.Bytes.{unread, Reads, Kept, Refills, Flushes, Delivers}
+use Rattle.serving.proofs.StateLaws.{ended-at-least}
+
+-- ---- the mode
+
+reads_same : (m : Mode) (n : ℕ) → Reads m n m n
+reads_same Write n = refl
+reads_same File n = refl
+reads_same (Part left due) n = (left, refl, refl)
+
+reads-more : (m : Mode) (room n at have : ℕ) → at ≤ have → n ≤ readable_of m room → Reads m (have - at) (read_by m n) (have + n - at)
+reads-more Write room n at have h k = refl
+reads-more File room n at have h k = refl
+reads-more (Part left due) room n at have h k = (left - n, refl, omega arith)
 
 -- ---- what is unread
 
@@ -41,39 +57,26 @@ module _ (s : Serving) (before after : List ℕ) (same : take s.run.have after �
       let few : length (unread s.run after) ≤ s.run.have + n - s.run.at = omega (arith, length-take (s.run.have - s.run.at) (drop s.run.at after)) in
       record { seat = refl; core = refl; front = rw (← still) (take-take _ (s.run.have + n - s.run.at) (drop s.run.at after) few ∙ take_own (s.run.have - s.run.at) (drop s.run.at after)) }
 
-  refills-still : (w : ℕ) → Refills s before (ended_by s w) after
-  refills-still w = record { turns = omega arith; mode = refl; kept = kept-still; limit = λ _. refl }
-
-  refills-gained : (n : ℕ) → s.run.at ≤ s.run.have → (s.mode ≡ part → n ≤ s.left) → Refills s before (gained_by s n) after
-  refills-gained n h k =
-      record {
-        turns = omega arith;
-        mode = refl;
-        kept = kept-gained n;
-        limit = λ p. rw (← rest-less s.mode s.left n p) (let l : n ≤ s.left = k p in omega arith);
-      }
-
-  by_tests : (g : Got) (a b c : Bool) → s.run.at ≤ s.run.have → (s.mode ≡ part → g.n ≤ s.left)
-      → Refills s before (cond a (ended_by s not_read) (cond b (cond c (ended_by s not_read) (ended_by s ended)) (gained_by s g.n))) after
-  by_tests g true b c h k = refills-still not_read
-  by_tests g false true true h k = refills-still not_read
-  by_tests g false true false h k = refills-still ended
-  by_tests g false false c h k = refills-gained g.n h k
+  refills-still : (w : Why) → Refills s before (ended_by s w) after
+  refills-still w = record { turns = omega arith; mode = reads_same s.mode _; kept = kept-still }
 
   -- read behind what is there
-  pub refills-brought : (g : Got) (most room : ℕ) {r : Serving} → s.run.at ≤ s.run.have → most ≡ allowed s.mode s.left room → s.run.have + g.n ≤ s.run.have + most
+  pub refills-brought : (g : Option ℕ) (most room : ℕ) {r : Serving} → s.run.at ≤ s.run.have → most ≡ readable_of s.mode room → s.run.have + unwrap_or g 0 ≤ s.run.have + most
       → r ≡ brought_by s g → Refills s before r after
-  unfolding brought_by
-  refills-brought g most room h a b e =
-      rw e (by_tests g g.failed (eqb g.n 0) (eqb s.mode part) h (λ p. let l : allowed s.mode s.left room ≤ s.left = allowed-part _ _ _ p in omega arith))
+  refills-brought None most room h a b e = rw e (refills-still NotRead)
+  refills-brought (Some n) most room h a b e = rw e (by-test (eqb n 0))
+    where
+      by-test : (t : Bool) → Refills s before (cond t (ended_by s (end_of s.mode)) (gained_by s n)) after
+      by-test true = refills-still (end_of s.mode)
+      by-test false = record { turns = omega arith; mode = reads-more s.mode room n _ _ h (omega (arith, a)); kept = kept-gained n }
 
 -- ---- what is delivered
 module _ (s : Serving) (out before : List ℕ) (n : ℕ) where
   -- a run that ended by a fault delivers nothing
-  delivers-none : {r : Serving} {after : List ℕ} → r.turns ≤ s.turns → r.run ≡ s.run → ended < r.why → Delivers s out before n r after
+  delivers-none : {r : Serving} {after : List ℕ} → r.turns ≤ s.turns → r.run ≡ s.run → rank Ended < rank r.why → Delivers s out before n r after
   delivers-none h e l = record { turns = h; run = e; waits = λ _ m. absurd (omega arith); expected = λ _ m. absurd (omega arith) }
 
-  pub delivers-behind : {u r : Serving} {after : List ℕ} → s.held ≤ length before → n ≤ length before - s.held → n ≤ length out → s.mode ≡ write
+  pub delivers-behind : {u r : Serving} {after : List ℕ} → s.held ≤ length before → n ≤ length before - s.held → n ≤ length out → s.mode ≡ Write
       → after ≡ paste before s.held out n → u ≡ held_by s (s.held + n) → r ≡ further_by u n → Delivers s out before n r after
   delivers-behind h k l m p e f =
       let fit : s.held + n ≤ length before = omega arith in
@@ -86,7 +89,7 @@ module _ (s : Serving) (out before : List ℕ) (n : ℕ) where
       }
 
   module _ {u : Serving} (done : Flushes s u) where
-    pub delivers-alone : {v r : Serving} {after : List ℕ} → s.held ≤ length before → length before - s.held < n → n ≤ length out → s.mode ≡ write
+    pub delivers-alone : {v r : Serving} {after : List ℕ} → s.held ≤ length before → length before - s.held < n → n ≤ length out → s.mode ≡ Write
         → after ≡ paste before 0 out n → v ≡ held_by u n → r ≡ further_by v n → Delivers s out before n r after
     delivers-alone h k l m p e f =
         let over : length before < s.held + n = omega arith in
@@ -98,15 +101,14 @@ module _ (s : Serving) (out before : List ℕ) (n : ℕ) where
         }
 
   -- ---- what is expected
-  pub delivers-judged : (most got same : ℕ) {r : Serving} {after : List ℕ} → (s.mode ≡ write → ⊥) → most ≤ n → got ≤ most → Alike out after got same → r ≡ judged_by s got same n → Delivers s out before n r after
-  unfolding judged_by
+  pub delivers-judged : (most got same : ℕ) {r : Serving} {after : List ℕ} → (s.mode ≡ Write → ⊥) → most ≤ n → got ≤ most → Alike out after got same → r ≡ judged_by s got same n → Delivers s out before n r after
   delivers-judged most got same {r} {after} m a b p e = rw e (by-test (ltb same n) refl)
     where
       u : Serving
       u = further_by (met_by s got) same
 
-      by-test : (t : Bool) → t ≡ ltb same n → Delivers s out before n (cond t (ended_by u differs) u) after
-      by-test true f = delivers-none (omega arith) refl (omega (arith, ended-at-least u differs))
+      by-test : (t : Bool) → t ≡ ltb same n → Delivers s out before n (cond t (ended_by u Differs) u) after
+      by-test true f = delivers-none (omega arith) refl (omega (arith, ended-at-least u Differs))
       by-test false f =
           let l : n ≤ same = ltb-false _ _ (sym f) in
           let all : same ≡ n = omega (arith, p.most) in

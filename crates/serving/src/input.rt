@@ -1,73 +1,54 @@
 // More of the trace is read into the buffer.
-ghost use Rattle.std.specs.Prelude.{◌+◌, ◌≤◌, ◌≡◌, length, take};
+ghost use Rattle.std.specs.Prelude.{◌+◌, ◌≤◌, ◌≡◌, length, take, unwrap_or};
 ghost use Rattle.serving.specs.Bytes.{Refills};
 
-use crate::state::{ENDED, Got, NO_ROOM, Serving, allowed, brought, ended, filled};
+use crate::state::{Serving, Why};
 use buffers::shift;
 use std::io::Read;
+use turns::turn::Run;
 
-// One read.
-fn read_once<R: Read>(input: &mut R, room: &mut [u8]) -> Got
-    ensures { result.n ≤ length room.old }
-{
-    match input.read(room) {
-        Ok(n) => Got { failed: false, n },
-        Err(_) => Got { failed: true, n: 0 },
-    }
-}
-
-// One read into buf from `from` up to `to`. What stands before is kept.
-fn fill<R: Read>(input: &mut R, buf: &mut [u8], from: usize, to: usize) -> Got
+// One read into buf from `from` up to `to`: how many bytes it brought, or that it failed. What stands
+// before is kept.
+fn fill<R: Read>(input: &mut R, buf: &mut [u8], from: usize, to: usize) -> Option<usize>
     requires { (from ≤ to) × (to ≤ length buf.old) }
-    ensures { (from + result.n ≤ to) × (take from buf.new ≡ take from buf.old) }
+    ensures { (from + unwrap_or result 0 ≤ to) × (take from buf.new ≡ take from buf.old) }
 {
-    read_once(input, &mut buf[from..to])
+    input.read(&mut buf[from..to]).ok()
 }
 
 // What is unread is moved to the front of the buffer.
 fn to_front(buf: &mut [u8], s: Serving) -> Serving
     ensures { Refills s buf.old result buf.new }
 {
-    let run = s.run;
-    let at = run.at;
-    let have = run.have;
-    if buf.len() < have {
-        return ended(s, NO_ROOM);
+    let Run { at, have, .. } = s.run;
+    if buf.len() < have || have < at {
+        return s.ended(Why::NoRoom);
     }
-    if have < at {
-        return ended(s, NO_ROOM);
-    }
-    let kept = shift(buf, at, have);
-    filled(s, kept)
+    s.filled(shift(buf, at, have))
 }
 
-// One read puts more behind what is there: of a PART no more than is left of it.
+// One read puts more behind what is there: of a part no more than is left of it.
 fn read_more<R: Read>(input: &mut R, buf: &mut [u8], s: Serving) -> Serving
     ensures { Refills s buf.old result buf.new }
 {
-    let run = s.run;
-    let have = run.have;
-    if buf.len() <= have {
-        return ended(s, NO_ROOM);
+    let Run { at, have, .. } = s.run;
+    if buf.len() <= have || have < at {
+        return s.ended(Why::NoRoom);
     }
-    if have < run.at {
-        return ended(s, NO_ROOM);
-    }
-    let n = allowed(s.mode, s.left, buf.len() - have);
+    let n = s.mode.readable(buf.len() - have);
     if n == 0 {
-        return ended(s, ENDED);
+        return s.ended(Why::Ended);
     }
-    let got = fill(input, buf, have, have + n);
-    brought(s, got)
+    s.brought(fill(input, buf, have, have + n))
 }
 
-// More is read behind what is unread. ENDED where the input ends, NOT_READ where a read fails or a
-// PART is cut.
+// More is read behind what is unread. The run is over where the input ends, where a read fails or a
+// part is cut.
 pub(crate) fn refill<R: Read>(input: &mut R, buf: &mut [u8], s: Serving) -> Serving
     ensures { Refills s buf.old result buf.new }
 {
     let u = to_front(buf, s);
-    if ENDED < u.why {
+    if u.why.is_fault() {
         return u;
     }
     read_more(input, buf, u)

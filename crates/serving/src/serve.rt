@@ -8,7 +8,8 @@ ghost use Rattle.serving.specs.Bytes.{Passes};
 
 use crate::input::refill;
 use crate::output::{close, deliver, flush};
-use crate::state::{ENDED, NO_ROOM, Served, Serving, ended, fresh, goes_on, passed, run_of, told};
+use crate::state::{Mode, Served, Serving, Why};
+use crate::streams::Streams;
 use aggregator::tallies::{TIMEOUT_TALLIES, TIMEOUT_WIDTH, VOTE_TALLIES, VOTE_WIDTH};
 use buffers::streams::large_buffer;
 use certificates::config::MEMBERS_MAX;
@@ -17,7 +18,7 @@ use certificates::numbers::{Hash, Round};
 use outputs::records::{ANSWER_SIZE, put_answer};
 use std::io::{Read, Write};
 use synchronizer::table::Slot;
-use turns::turn::{ANSWERED, MORE, Turned, turn};
+use turns::turn::{Met, Turned, turn};
 
 // 01, The trace form: "with a 256-slot table"; and the bytes of the output buffer.
 pub const SLOTS: usize = 256;
@@ -25,9 +26,8 @@ pub const SLOTS: usize = 256;
 pub const OUT_ROOM: usize = 13318;
 
 // The input ended. A record that its end cuts gets ANSWER 16.
-fn cut<E: Read, W: Write>(
-    expected: &mut E,
-    output: &mut W,
+fn cut<R, E: Read, W: Write>(
+    streams: &mut Streams<R, E, W>,
     out: &mut [u8],
     pack: &mut [u8],
     s: Serving,
@@ -38,17 +38,15 @@ fn cut<E: Read, W: Write>(
         return s;
     }
     if out.len() < ANSWER_SIZE {
-        return ended(s, NO_ROOM);
+        return s.ended(Why::NoRoom);
     }
     let n = put_answer(out, 0, BAD_RECORD);
-    deliver(expected, output, out, pack, n, s)
+    deliver(streams, out, pack, n, s)
 }
 
 // There is no whole record in the buffer. What waits is written out before more is waited for.
 fn more<R: Read, E: Read, W: Write>(
-    input: &mut R,
-    expected: &mut E,
-    output: &mut W,
+    streams: &mut Streams<R, E, W>,
     out: &mut [u8],
     buf: &mut [u8],
     pack: &mut [u8],
@@ -56,22 +54,20 @@ fn more<R: Read, E: Read, W: Write>(
 ) -> Serving
     ensures { Passes s buf.old result buf.new }
 {
-    let u = flush(output, pack, s);
-    if ENDED < u.why {
+    let u = flush(&mut streams.output, pack, s);
+    if u.why.is_fault() {
         return u;
     }
-    let v = refill(input, buf, u);
-    if v.why == ENDED {
-        return cut(expected, output, out, pack, v);
+    let v = refill(&mut streams.input, buf, u);
+    if v.why == Why::Ended {
+        return cut(streams, out, pack, v);
     }
     v
 }
 
 // What a turn left is delivered, or more is read.
 pub(crate) fn moved<R: Read, E: Read, W: Write>(
-    input: &mut R,
-    expected: &mut E,
-    output: &mut W,
+    streams: &mut Streams<R, E, W>,
     out: &mut [u8],
     buf: &mut [u8],
     pack: &mut [u8],
@@ -80,24 +76,19 @@ pub(crate) fn moved<R: Read, E: Read, W: Write>(
 ) -> Serving
     ensures { Passes (passed_by s t) buf.old result buf.new }
 {
-    let u = passed(s, t);
-    if t.met == MORE {
-        return more(input, expected, output, out, buf, pack, u);
+    let u = s.passed(t);
+    match t.met {
+        Met::More => more(streams, out, buf, pack, u),
+        Met::Answered => deliver(streams, out, pack, t.written, u),
+        Met::TooLong => deliver(streams, out, pack, t.written, u).ended(Why::Ended),
     }
-    let v = deliver(expected, output, out, pack, t.written, u);
-    if t.met == ANSWERED {
-        return v;
-    }
-    ended(v, ENDED)
 }
 
 // Turn after turn, to the end of the run. Nothing says that the input ends, so the turns are counted
 // down. Each takes a record of two bytes or more, reads a byte or more, or ends the run: a trace of
 // n bytes takes at most 1.5 n + 1 turns, and 2^64 - 1 are enough for 10^19 bytes.
 pub fn serve<R: Read, E: Read, W: Write>(
-    input: &mut R,
-    expected: &mut E,
-    output: &mut W,
+    streams: &mut Streams<R, E, W>,
     stakes: &mut [u32],
     votes: &mut [u64],
     timeouts: &mut [u64],
@@ -110,11 +101,9 @@ pub fn serve<R: Read, E: Read, W: Write>(
     ensures { result.turns ≡ 0 }
 {
     let mut u = s;
-    while goes_on(u) {
-        let run = run_of(u);
-        let t = turn(stakes, votes, timeouts, table, out, buf, run);
-        let v = moved(input, expected, output, out, buf, pack, u, t);
-        u = v;
+    while 0 < u.turns {
+        let t = turn(stakes, votes, timeouts, table, out, buf, u.run);
+        u = moved(streams, out, buf, pack, u, t);
     }
     u
 }
@@ -146,56 +135,27 @@ fn out_buffer() -> [u8; OUT_ROOM]
     [0; OUT_ROOM]
 }
 
-// The same with an empty table, which is made and lent here.
-pub(crate) fn serve_in<R: Read, E: Read, W: Write>(
-    input: &mut R,
-    expected: &mut E,
-    output: &mut W,
-    stakes: &mut [u32],
-    votes: &mut [u64],
-    timeouts: &mut [u64],
-    out: &mut [u8],
-    buf: &mut [u8],
-    pack: &mut [u8],
-    s: Serving,
-) -> Serving
-    ensures { result.turns ≡ 0 }
-{
-    let mut table = blank_table();
-    serve(
-        input, expected, output, stakes, votes, timeouts, &mut table, out, buf, pack, s,
-    )
-}
-
-// A replica that was not started plays the trace that is read from `input`, to its end; what it
-// writes goes to `output`, or is compared with what is read from `expected`. Of a PART, `left` and
-// `due` are the bytes that the trace and what is expected have.
-pub fn serve_new<R: Read, E: Read, W: Write>(
-    input: &mut R,
-    expected: &mut E,
-    output: &mut W,
-    mode: u8,
-    left: u64,
-    due: u64,
-) -> Served {
+// A replica that was not started plays the trace of the input to its end; what it writes goes to the
+// output, or is compared with what is expected.
+pub fn serve_new<R: Read, E: Read, W: Write>(streams: &mut Streams<R, E, W>, mode: Mode) -> Served {
     let mut stakes = [0u32; MEMBERS_MAX];
     let mut votes = [0u64; VOTE_TALLIES * VOTE_WIDTH];
     let mut timeouts = [0u64; TIMEOUT_TALLIES * TIMEOUT_WIDTH];
+    let mut table = blank_table();
     let mut out = out_buffer();
     let mut buf = large_buffer();
     let mut pack = large_buffer();
-    let s = fresh(mode, left, due);
-    let u = serve_in(
-        input,
-        expected,
-        output,
+    let s = Serving::fresh(mode);
+    let u = serve(
+        streams,
         &mut stakes,
         &mut votes,
         &mut timeouts,
+        &mut table,
         &mut out,
         &mut buf,
         &mut pack,
         s,
     );
-    told(close(expected, output, &pack, u))
+    close(streams, &pack, u).told()
 }

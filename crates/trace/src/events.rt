@@ -12,6 +12,7 @@
 //   QC                hash 0, round 32, verdict 40, count 41, places of 2 from 43
 //   TC                round 0, verdict 8, count 9, entries of 10 from 11: place 0, high round 2
 ghost use Rattle.std.specs.Prelude.{◌≡◌, ◌^◌, ◌<◌, length, drop, set, MatchOption};
+ghost use Rattle.certificates.specs.Error.{number};
 ghost use Rattle.trace.specs.Layout.{signers_max, count_of, size_by, part_of, qc_part, tc_part, flag_at, tc_at, block_end, payload_of, tc_rounds, largest, largest_high, highs_of};
 ghost use Rattle.trace.specs.Form.{Numbered, size_of, in_range, is_formed, form_of, are_marks};
 ghost use Rattle.trace.specs.Limits.{empty_tc, bounded, limit_of};
@@ -19,7 +20,7 @@ ghost use Rattle.trace.specs.Fields.{vote_of, timeout_of, block_of, tc_round_of,
 
 use crate::part::{after, byte_at, first};
 use crate::record::RECORD_MAX;
-use certificates::error::{EMPTY_TC, LIST_TOO_LONG, ROUND_TOO_HIGH};
+use certificates::error::{Answer, Refusal};
 use certificates::num::{hash_at, u16_at, u64_at};
 use certificates::numbers::{Hash, Place, ROUND_MAX, Round};
 
@@ -306,17 +307,17 @@ pub fn highs_of(highs: &mut [u64], part: &[u8])
 
 // ---- limits
 
-// 20 for a list that is too long, else 19 for a round that is too high, else 0.
+// Refuses a list that is too long, and then a round that is too high.
 #[tactic(auto, unfolding(crate::specs::Limits::bounded))]
-fn bound(count: u16, round: u64) -> u16
-    ensures { result ≡ bounded count round }
+fn bound(count: u16, round: u64) -> Answer
+    ensures { number result ≡ bounded count round }
 {
     if SIGNERS_MAX < count {
-        LIST_TOO_LONG
+        Err(Refusal::ListTooLong)
     } else if ROUND_MAX < round {
-        ROUND_TOO_HIGH
+        Err(Refusal::RoundTooHigh)
     } else {
-        0
+        Ok(())
     }
 }
 
@@ -330,8 +331,8 @@ fn tc_rounds(record: &[u8], at: usize) -> u64
 }
 
 #[tactic(auto, using(crate::proofs::Bounds::any_largest), unfolding(crate::specs::Limits::limit_of, crate::specs::Limits::bounded, crate::specs::Limits::block_counts, crate::specs::Limits::block_rounds, crate::specs::Layout::largest))]
-fn block_limit(record: &[u8]) -> u16
-    ensures { result ≡ limit_of «record».now Kind.Propose }
+fn block_limit(record: &[u8]) -> Answer
+    ensures { number result ≡ limit_of «record».now Kind.Propose }
 {
     let count = QC.count_at(record, BLOCK_QC);
     let round = u64_at(record, 36).max(u64_at(record, 77));
@@ -351,13 +352,13 @@ fn has_empty_tc(record: &[u8]) -> bool
     tc_at(record).is_some_and(|tc| TC.count_at(record, tc) == 0)
 }
 
-// 32, 20 or 19 for a record that passes a limit, in this order, and else 0.
+// Refuses a record that passes a limit: with 32, 20 or 19, in this order.
 #[tactic(auto, using(crate::proofs::Bounds::any_largest), unfolding(crate::specs::Limits::limit_of, crate::specs::Limits::bounded, crate::specs::Layout::largest))]
-pub fn limit_of(record: &[u8], kind: Kind) -> u16
-    ensures { result ≡ limit_of «record».now kind }
+pub fn limit_of(record: &[u8], kind: Kind) -> Answer
+    ensures { number result ≡ limit_of «record».now kind }
 {
     match kind {
-        Kind::Start | Kind::Tick => 0,
+        Kind::Start | Kind::Tick => Ok(()),
         Kind::Propose => block_limit(record),
         Kind::Vote => bound(0, u64_at(record, 34)),
         Kind::Timeout => bound(
@@ -367,7 +368,7 @@ pub fn limit_of(record: &[u8], kind: Kind) -> u16
         Kind::Tc => bound(TC.count_at(record, TC_BODY), tc_rounds(record, TC_BODY)),
         Kind::Loopback => {
             if has_empty_tc(record) {
-                EMPTY_TC
+                Err(Refusal::EmptyTc)
             } else {
                 block_limit(record)
             }

@@ -1,13 +1,14 @@
 -- What stands at the front, by cases: a law for each way out of `ahead_of` and `cut_met`, and that the record that the replica is asked for is
 -- the one at the front.
---     cut-long, cut-more                              what is met where the front is cut
---     ahead-end, ahead-cut, ahead_small, ahead-record what is met, and where the record lies
---     small-within, record-within                     a record ends in what was read
+--     cut_long, cut_more                              what is met where the front is cut
+--     ahead_end, ahead_cut, ahead_one                 what is met, and where the record lies
+--     one_within                                      a record ends in what was read
 --     taken_by f, ahead-to                            the bytes that are taken, and that the next record starts behind them
 --     ahead-record-is                                 the record that the replica is asked for
 -- Assumes nothing.
 use Prim.Native.Nat.{ℕ, ◌+◌, ◌-◌, ◌≤◌, ◌<◌}
 use mathlib.Core.List.{List, []}
+use mathlib.Core.Logic.{◌⊎◌, inl, inr}
 use mathlib.Core.Path.{◌≡◌, refl, sym, ◌∙◌}
 use native.Mathlib.Omega.{arith}
 use borrow.Author.Tests.{lt-ltb, le-ltb}
@@ -20,34 +21,36 @@ use Rattle.trace.specs.declared.record.Front.{Front}
 use Rattle.trace.specs.declared.record.Front.TheVariants.{End, Cut, Small, Record}
 use Rattle.trace.proofs.Parts.{drop-take}
 use Rattle.trace.proofs.FrontLaws.{Bounds, front-bounds}
-use Rattle.turns.specs.Turn.{more, too_long}
+use Rattle.turns.specs.declared.turn.Met.{Met}
+use Rattle.turns.specs.declared.turn.Met.TheVariants.{More, TooLong}
 use Rattle.turns.specs.Code.{cut_met, none_at, one_at, ahead_by, ahead_of}
+
+-- a record of either kind, which ends at `end`
+abbrev pub One : Front → ℕ → Type 0
+One f end = (f ≡ Small end) ⊎ ((kind : ℕ) × (f ≡ Record kind end))
 
 -- ---- ways out
 
 module _ (s : List ℕ) {n : ℕ} (e : n ≡ num_at 2 s 0) where
-  pub cut-long : record_max < n → too_long ≡ cut_met s
-  cut-long h = rw (← e, lt-ltb _ _ h)
+  pub cut_long : record_max < n → TooLong ≡ cut_met s
+  cut_long h = rw (← e, lt-ltb _ _ h)
 
-  pub cut-more : n ≤ record_max → more ≡ cut_met s
-  cut-more h = rw (← e, le-ltb _ _ h)
+  pub cut_more : n ≤ record_max → More ≡ cut_met s
+  cut_more h = rw (← e, le-ltb _ _ h)
 
 module _ (s : List ℕ) {f : Front} (p : f ≡ split_of s) (at : ℕ) where
-  pub ahead-end : f ≡ End → none_at more at ≡ ahead_of at s
+  pub ahead_end : f ≡ End → none_at More at ≡ ahead_of at s
   unfolding ahead_of
-  ahead-end q = rw (← p, q)
+  ahead_end q = rw (← p, q)
 
-  pub ahead-cut : {part : List ℕ} {m : ℕ} → part ≡ s → f ≡ Cut → m ≡ cut_met part → none_at m at ≡ ahead_of at s
+  pub ahead_cut : {part : List ℕ} {m : Met} → part ≡ s → f ≡ Cut → m ≡ cut_met part → none_at m at ≡ ahead_of at s
   unfolding ahead_of
-  ahead-cut e q h = rw (← p, q, h, e)
+  ahead_cut e q h = rw (← p, q, h, e)
 
-  pub ahead_small : {end : ℕ} → f ≡ Small end → one_at at end ≡ ahead_of at s
+  pub ahead_one : {end : ℕ} → One f end → one_at at end ≡ ahead_of at s
   unfolding ahead_of
-  ahead_small q = rw (← p, q)
-
-  pub ahead-record : {kind end : ℕ} → f ≡ Record kind end → one_at at end ≡ ahead_of at s
-  unfolding ahead_of
-  ahead-record q = rw (← p, q)
+  ahead_one (inl q) = rw (← p, q)
+  ahead_one (inr (kind, q)) = rw (← p, q)
 
 -- ---- where a record ends
 
@@ -58,11 +61,9 @@ module _ (at have : ℕ) (t : List ℕ) {f : Front} (p : f ≡ split_of (between
   bounds : {g : Front} → f ≡ g → Bounds g (length (between at have t))
   bounds {g} q = front-bounds (between at have t) g (sym q ∙ p)
 
-  pub small-within : {end : ℕ} → f ≡ Small end → (2 ≤ end) × (at + end ≤ have)
-  small-within q = let b = bounds q in omega (arith, part_length at have t)
-
-  pub record-within : {kind end : ℕ} → f ≡ Record kind end → (2 ≤ end) × (at + end ≤ have)
-  record-within q = let b = bounds q in omega (arith, part_length at have t)
+  pub one_within : {end : ℕ} → One f end → (2 ≤ end) × (at + end ≤ have)
+  one_within (inl q) = let b = bounds q in omega (arith, part_length at have t)
+  one_within (inr (kind, q)) = let b = bounds q in omega (arith, part_length at have t)
 
 -- ---- the record that the replica is asked for
 
@@ -93,5 +94,5 @@ module _ (at have : ℕ) (t : List ℕ) where
       → between (ahead_by f at (between at have t)).from (ahead_by f at (between at have t)).to t ≡ record_of f (between at have t)
   ahead-record-is End p = none-there
   ahead-record-is Cut p = none-there
-  ahead-record-is (Small end) p = let b = small-within at have t p refl in one-there end b.0 b.1
-  ahead-record-is (Record kind end) p = let b = record-within at have t p refl in one-there end b.0 b.1
+  ahead-record-is (Small end) p = let b = one_within at have t p (inl refl) in one-there end b.0 b.1
+  ahead-record-is (Record kind end) p = let b = one_within at have t p (inr (kind, refl)) in one-there end b.0 b.1

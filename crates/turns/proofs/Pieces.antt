@@ -24,7 +24,9 @@ use Rattle.trace.proofs.FrontLaws.{Whole, front-append, record-append, rest-appe
 use Rattle.outputs.specs.Records.{Rec, answer, answer_size, enc_all}
 use Rattle.outputs.proofs.Wrote.{all_none}
 use Rattle.replica.specs.Step.{World, stepped}
-use Rattle.turns.specs.Turn.{answered, more, too_long, is_too_long, answers_in, Turning, waiting, turned}
+use Rattle.turns.specs.Turn.{is_too_long, answers_in, Turning, waiting, turned}
+use Rattle.turns.specs.declared.turn.Met.{Met}
+use Rattle.turns.specs.declared.turn.Met.TheVariants.{Answered, More, TooLong}
 use Rattle.turns.specs.Ledger.{event_at, ledger_of}
 use Rattle.turns.specs.Pieces.{Played, played_in, played_of, fed_of}
 use Rattle.turns.proofs.Fronts.{taken_by}
@@ -43,7 +45,7 @@ module _ (w : World) (room : ℕ) (s : List ℕ) where
   abbrev taken : Front → Turning
   taken f =
       record {
-        met = answered;
+        met = Answered;
         world = (event_at w room s).world;
         taken = taken_by f;
         outs = (event_at w room s).outs ++ answers_in room (event_at w room s).outs (event_at w room s).answer;
@@ -64,7 +66,7 @@ module _ (w : World) (room : ℕ) (s : List ℕ) where
   unfolding turned
   turned-waits p h = rw (← p, h)
 
-  pub turned-over : Cut ≡ split_of s → is_too_long s ≡ true → turned w room s ≡ record { met = too_long; world = w; taken = 0; outs = answers_in room [] bad_record }
+  pub turned-over : Cut ≡ split_of s → is_too_long s ≡ true → turned w room s ≡ record { met = TooLong; world = w; taken = 0; outs = answers_in room [] bad_record }
   unfolding turned
   turned-over p h = rw (← p, h)
 
@@ -189,20 +191,20 @@ module _ {room : ℕ} {Good : World → Type 0} (a : Answers room Good) where
   then-event : (w : World) (s q : List ℕ) (f : Front) → f ≡ split_of s → Whole f → Good w → TurnThen w s q
   then-event w s q f p h g = rw (turned-event w room s f p h, rest-is f s h, event-answers w s g) (event-ledger w s q f p h ∙ rw append_assoc)
 
-  not_taken : (w : World) (s : List ℕ) {t : Turning} → turned w room s ≡ t → (t.met ≡ answered → ⊥) → (turned w room s).met ≡ answered → ⊥
+  not_taken : (w : World) (s : List ℕ) {t : Turning} → turned w room s ≡ t → (t.met ≡ Answered → ⊥) → (turned w room s).met ≡ Answered → ⊥
   not_taken w s e n m = n (sym (ap (λ (u : Turning). u.met) e) ∙ m)
 
-  cut-not-taken : (w : World) (s : List ℕ) → Cut ≡ split_of s → (long : Bool) → is_too_long s ≡ long → (turned w room s).met ≡ answered → ⊥
-  cut-not-taken w s p true e = not_taken w s (turned-over w room s p e) (λ z. absurd (omega arith))
-  cut-not-taken w s p false e = not_taken w s (turned-waits w room s p e) (λ z. absurd (omega arith))
+  cut-not-taken : (w : World) (s : List ℕ) → Cut ≡ split_of s → (long : Bool) → is_too_long s ≡ long → (turned w room s).met ≡ Answered → ⊥
+  cut-not-taken w s p true e = not_taken w s (turned-over w room s p e) (λ z. cc)
+  cut-not-taken w s p false e = not_taken w s (turned-waits w room s p e) (λ z. cc)
 
-  then_by : (w : World) (s q : List ℕ) (f : Front) → f ≡ split_of s → Good w → (turned w room s).met ≡ answered → TurnThen w s q
-  then_by w s q End p g m = absurd (not_taken w s (turned-end w room s p) (λ z. absurd (omega arith)) m)
+  then_by : (w : World) (s q : List ℕ) (f : Front) → f ≡ split_of s → Good w → (turned w room s).met ≡ Answered → TurnThen w s q
+  then_by w s q End p g m = absurd (not_taken w s (turned-end w room s p) (λ z. cc) m)
   then_by w s q Cut p g m = absurd (cut-not-taken w s p (is_too_long s) refl m)
   then_by w s q (Small end) p g m = then-event w s q (Small end) p tt g
   then_by w s q (Record kind end) p g m = then-event w s q (Record kind end) p tt g
 
-  pub turn-then : (w : World) (s q : List ℕ) → Good w → (turned w room s).met ≡ answered → TurnThen w s q
+  pub turn-then : (w : World) (s q : List ℕ) → Good w → (turned w room s).met ≡ Answered → TurnThen w s q
   turn-then w s q g m = then_by w s q (split_of s) refl g m
 
   -- ---- where the turns end: more is waited for, or the run is over
@@ -253,9 +255,9 @@ module _ {room : ℕ} {Good : World → Type 0} (a : Answers room Good) where
   cut-by-end w x s End p e = let h = end_empty (x ∷ s) p in absurd (omega arith)
   cut-by-end w x s Cut p e = ledger-cut room w (x ∷ s) p
   cut-by-end w x s (Small end) p e =
-      let z : answered ≡ more = ap (λ (t : Turning). t.met) (sym (turned-event w room (x ∷ s) (Small end) p tt) ∙ e) in absurd (omega arith)
+      let z : ◌≡◌ {A = Met} Answered More = ap (λ (t : Turning). t.met) (sym (turned-event w room (x ∷ s) (Small end) p tt) ∙ e) in cc
   cut-by-end w x s (Record kind end) p e =
-      let z : answered ≡ more = ap (λ (t : Turning). t.met) (sym (turned-event w room (x ∷ s) (Record kind end) p tt) ∙ e) in absurd (omega arith)
+      let z : ◌≡◌ {A = Met} Answered More = ap (λ (t : Turning). t.met) (sym (turned-event w room (x ∷ s) (Record kind end) p tt) ∙ e) in cc
 
   ends : (w : World) (s : List ℕ) → turned w room s ≡ waiting w → cond (eqb (length s) 0) [] (answer bad_record ∷ []) ≡ ledger_of w room s
   ends w [] e = sym (ledger-end room w [] (at-end [] (omega arith)))

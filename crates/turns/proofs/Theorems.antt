@@ -31,7 +31,8 @@ use Rattle.replica.specs.Started.{room_for}
 use Rattle.replica.specs.Step.{World, refused_in, stepped}
 use Rattle.replica.proofs.Theorems.{bad-record}
 use Rattle.replica.proofs.Sizes.{step-size, step-slots}
-use Rattle.turns.specs.Turn.{answered, answers_in, Turning, is_too_long, turned, turned_by, Left, laid_in}
+use Rattle.turns.specs.Turn.{answers_in, Turning, is_too_long, turned, turned_by, Left, laid_in}
+use Rattle.turns.specs.declared.turn.Met.TheVariants.{Answered}
 use Rattle.turns.specs.Ledger.{event_at, ledger_of}
 use Rattle.turns.specs.Pieces.{played_of, fed_of}
 use Rattle.turns.proofs.Fronts.{taken_by}
@@ -97,7 +98,7 @@ unfolding form_of
 short-form r h = rw (lt-ltb _ _ h)
 
 pub short-record : (w : World) (room : ℕ) (s : List ℕ) {end : ℕ} → Small end ≡ split_of s
-    → turned w room s ≡ record { met = answered; world = w; taken = end; outs = answers_in room [] bad_record }
+    → turned w room s ≡ record { met = Answered; world = w; taken = end; outs = answers_in room [] bad_record }
 unfolding turned
 short-record w room s {end} p =
     let l : length (between 2 end s) < 2 = rw length-take (omega (arith, short-end s p)) in
@@ -120,11 +121,11 @@ answers-fit room =
 module _ (room : ℕ) (w : World) (g : Roomy room w) where
   pub turn-answers : (s : List ℕ) (f : Front) → f ≡ split_of s → Whole f
       → turned w room s
-      ≡ record { met = answered; world = (event_at w room s).world; taken = taken_by f; outs = (event_at w room s).outs ++ answer (event_at w room s).answer ∷ [] }
+      ≡ record { met = Answered; world = (event_at w room s).world; taken = taken_by f; outs = (event_at w room s).outs ++ answer (event_at w room s).answer ∷ [] }
   turn-answers s f p h = turned-event w room s f p h ∙ rw (event-answers (answers-fit room) w s g)
 
   -- one turn that takes a record, as the step of a loop over a buffer s with q still to come
-  pub one-turn : (s q : List ℕ) → (turned w room s).met ≡ answered
+  pub one-turn : (s q : List ℕ) → (turned w room s).met ≡ Answered
       → ledger_of w room (s ++ q) ≡ (turned w room s).outs ++ ledger_of (turned w room s).world room (drop (turned w room s).taken s ++ q)
   one-turn s q m = turn-then (answers-fit room) w s q g m
 

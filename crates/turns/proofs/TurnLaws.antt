@@ -5,12 +5,11 @@
 --     turn-fits, turn-room      what is written lies in the output, and is bounded
 -- Assumes nothing.
 use Prim.Native.Nat.{ℕ, ◌+◌, ◌-◌, ◌≤◌}
-use mathlib.Core.Bool.{Bool, true, false, cond}
+use mathlib.Core.Bool.{Bool, true, false}
 use mathlib.Core.List.{List, [], ◌++◌}
 use mathlib.Core.Path.{◌≡◌, refl, sym, ap, ◌∙◌}
 use native.Mathlib.Nat.{zero-add}
 use native.Mathlib.Omega.{arith}
-use lib.Dec.{eqb}
 use lib.ListN.{length, drop, length-append, length-drop}
 use lib.Seq.{sets-eq}
 use Rattle.std.specs.Prelude.{None}
@@ -32,9 +31,11 @@ use Rattle.replica.specs.Step.{World, Result, refused_in, world, laid, stepped}
 use Rattle.replica.specs.Order.{record_in}
 use Rattle.replica.proofs.Theorems.{bad-record}
 use Rattle.turns.specs.declared.turn.Run.{Run}
+use Rattle.turns.specs.declared.turn.Met.{Met}
+use Rattle.turns.specs.declared.turn.Met.TheVariants.{Answered, More, TooLong}
 use Rattle.turns.specs.declared.turn.Turned.{Turned}
 use Rattle.turns.specs.declared.turn.Ahead.{Ahead}
-use Rattle.turns.specs.Turn.{more, is_too_long, answers_in, Turning, turned_by, turned, Left, laid_in, left_by}
+use Rattle.turns.specs.Turn.{is_too_long, answers_in, Turning, turned_by, turned, Left, laid_in, left_by}
 use Rattle.turns.specs.Code.{ahead_by, ahead_of, order_at, closing, Closes}
 use Rattle.turns.proofs.Fronts.{taken_by, ahead-to, ahead-record-is}
 use Rattle.turns.proofs.Closings.{closing-fits}
@@ -50,10 +51,12 @@ empty-record w room = bad-record w room [] empty-form
 
 -- ---- a turn, by what an event on the record at the front gives
 
-abbrev ending : ℕ → ℕ → Result → List Rec
-ending met room x = cond (eqb met more) [] (answers_in room x.outs x.answer)
+abbrev ending : Met → ℕ → Result → List Rec
+ending Answered room x = answers_in room x.outs x.answer
+ending More room x = []
+ending TooLong room x = answers_in room x.outs x.answer
 
-abbrev turning : ℕ → ℕ → ℕ → Result → Turning
+abbrev turning : Met → ℕ → ℕ → Result → Turning
 turning met taken room x = record { met = met; world = x.world; taken = taken; outs = x.outs ++ ending met room x }
 
 module _ (w : World) (room : ℕ) (s : List ℕ) where
@@ -107,9 +110,14 @@ module _ {x : Stepped} {stakes votes timeouts out₁ : List ℕ} {table : List S
         room = omega arith;
       }
 
+same-ending : (x : Stepped) (y : Result) (room : ℕ) → x.written ≡ length (enc_all y.outs) → x.answer ≡ y.answer → (met : Met) → closing met x room ≡ ending met room y
+same-ending x y room w a Answered = rw (w, a)
+same-ending x y room w a More = refl
+same-ending x y room w a TooLong = rw (w, a)
+
 -- ---- put together
 
-same_left : {m m' a a' h h' n n' : ℕ} {w w' : World} {o o' : List ℕ} → m ≡ m' → w ≡ w' → a ≡ a' → h ≡ h' → n ≡ n' → o ≡ o'
+same_left : {m m' : Met} {a a' h h' n n' : ℕ} {w w' : World} {o o' : List ℕ} → m ≡ m' → w ≡ w' → a ≡ a' → h ≡ h' → n ≡ n' → o ≡ o'
     → ◌≡◌ {A = Left} (record { met = m; world = w; at = a; have = h; written = n; out = o }) (record { met = m'; world = w'; at = a'; have = h'; written = n'; out = o' })
 same_left a b c d e f = rw (a, b, c, d, e, f)
 
@@ -143,7 +151,7 @@ module _ (run : Run) (stakes votes timeouts : List ℕ) (table : List Slot) (out
   to_is = ap (λ (z : Ahead). z.to) a ∙ ahead-to (split_of s) run.at s
 
   closing-is : closing ahead.met x (length out₁) ≡ ending (ahead_by (split_of s) 0 s).met (length out) y
-  closing-is = rw (met-is, l, left-written y out p', left-answer y out p')
+  closing-is = rw (met-is, l) (same-ending x y (length out) (left-written y out p') (left-answer y out p') _)
 
   wrote : Wrote (x.written + answer_size) (y.outs ++ ending (ahead_by (split_of s) 0 s).met (length out) y) out 0 out₂ r.written
   wrote = wrote_then (left-wrote y out p' l) (rw closing-is at c.wrote)

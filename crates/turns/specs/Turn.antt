@@ -1,6 +1,5 @@
 -- One turn of a run, from the bytes at the front of what was read. 01, The trace form: "A record is a two-byte length (bytes after it), a
 -- two-byte kind, a body.", "Taking one record off hands back the unread rest of the caller's buffer."
---     answered, more, too_long      what a turn meets: a record; no whole record; a length above the most
 --     is_too_long s                 whether the length at the front of s is above the most
 --     answers_in room outs n        the ANSWER behind these outputs, in an output of `room` bytes
 --     Turning                       what is met, the world that is left, the bytes that are taken, the records that are written
@@ -17,16 +16,9 @@ use Rattle.trace.specs.declared.record.Front.TheVariants.{End, Cut, Small, Recor
 use Rattle.outputs.specs.Records.{Rec, answer, answer_size, enc_all}
 use Rattle.synchronizer.specs.declared.table.Slot.{Slot}
 use Rattle.replica.specs.Step.{World, Result, world, stepped}
+use Rattle.turns.specs.declared.turn.Met.{Met}
+use Rattle.turns.specs.declared.turn.Met.TheVariants.{Answered, More, TooLong}
 use Rattle.turns.specs.declared.turn.Turned.{Turned}
-
-abbrev pub answered : ℕ
-answered = 0
-
-abbrev pub more : ℕ
-more = 1
-
-abbrev pub too_long : ℕ
-too_long = 2
 
 -- "Length is 2 to 4,096."
 abbrev pub is_too_long : List ℕ → Bool
@@ -37,25 +29,25 @@ abbrev pub answers_in : ℕ → List Rec → ℕ → List Rec
 answers_in room outs n = cond (leb (length (enc_all outs) + answer_size) room) (answer n ∷ []) []
 
 pub record Turning : Type 0 where
-  pub met : ℕ
+  pub met : Met
   pub world : World
   pub taken : ℕ
   pub outs : List Rec
 
 -- no whole record: nothing changes
 abbrev pub waiting : World → Turning
-waiting w = record { met = more; world = w; taken = 0; outs = [] }
+waiting w = record { met = More; world = w; taken = 0; outs = [] }
 
 -- a record that ends at `end`, and what the replica made of it
 abbrev pub taking : ℕ → ℕ → Result → Turning
-taking end room x = record { met = answered; world = x.world; taken = end; outs = x.outs ++ answers_in room x.outs x.answer }
+taking end room x = record { met = Answered; world = x.world; taken = end; outs = x.outs ++ answers_in room x.outs x.answer }
 
 -- "A length above 4,096 or a record cut by the end gets ANSWER 16 and ends the run. Any other bad record gets 16 and the next is read." Whether
 -- the input ends is not known here, so that a record of which a part is missing is waited for.
 abbrev pub turned_by : Front → World → ℕ → List ℕ → Turning
 turned_by End w room s = waiting w
 turned_by Cut w room s =
-    cond (is_too_long s) (record { met = too_long; world = w; taken = 0; outs = answers_in room [] bad_record }) (waiting w)
+    cond (is_too_long s) (record { met = TooLong; world = w; taken = 0; outs = answers_in room [] bad_record }) (waiting w)
 turned_by (Small end) w room s = taking end room (stepped w room (record_of (Small end) s))
 turned_by (Record kind end) w room s = taking end room (stepped w room (record_of (Record kind end) s))
 
@@ -65,7 +57,7 @@ turned w room s = turned_by (split_of s) w room s
 -- ---- every byte
 
 pub record Left : Type 0 where
-  pub met : ℕ
+  pub met : Met
   pub world : World
   pub at : ℕ
   pub have : ℕ

@@ -21,11 +21,12 @@ use trace::record::{Front, RECORD_MAX};
 
 // What a turn met at the front: a record, which was taken and answered; no whole record, so that
 // more has to be read, or the input has ended; a length above the most, which ends the run.
-pub const ANSWERED: u8 = 0;
-
-pub const MORE: u8 = 1;
-
-pub const TOO_LONG: u8 = 2;
+#[derive(Clone, Copy, Debug, PartialEq, Eq)]
+pub enum Met {
+    Answered,
+    More,
+    TooLong,
+}
 
 // The replica's part by value, and the bytes of the buffer that were read and not taken: those from
 // `at` up to `have`, as far as the buffer has them.
@@ -42,26 +43,28 @@ pub struct Run {
 pub struct Turned {
     pub run: Run,
     pub written: usize,
-    pub met: u8,
+    pub met: Met,
 }
 
 // What stands at the front: what is met, where the record lies, and that the next one starts where
-// it ends. Where no record is to be taken, none lies at the front, and nothing is skipped.
+// it ends. Where no record is to be taken, none lies at the front, and nothing is skipped. (An enum
+// with the two places in it is no plainer: each reader of them would match it.)
 #[derive(Clone, Copy)]
 pub struct Ahead {
-    pub met: u8,
+    pub met: Met,
     pub from: usize,
     pub to: usize,
 }
 
 // A front that is cut: a length above the most ends the run, and else more may come.
-fn cut_met(part: &[u8]) -> u8
+#[tactic(auto, using(crate::proofs::Fronts::cut_long, crate::proofs::Fronts::cut_more))]
+fn cut_met(part: &[u8]) -> Met
     ensures { result ≡ cut_met part.now }
 {
     if RECORD_MAX < u16_at(part, 0) as usize {
-        return TOO_LONG;
+        return Met::TooLong;
     }
-    MORE
+    Met::More
 }
 
 pub(crate) fn ahead_of(trace: &[u8], run: Run) -> Ahead
@@ -70,7 +73,7 @@ pub(crate) fn ahead_of(trace: &[u8], run: Run) -> Ahead
     let part = middle(trace, run.at, run.have);
     match front_from(trace, run.at, run.have) {
         Front::End => Ahead {
-            met: MORE,
+            met: Met::More,
             from: run.at,
             to: run.at,
         },
@@ -79,13 +82,8 @@ pub(crate) fn ahead_of(trace: &[u8], run: Run) -> Ahead
             from: run.at,
             to: run.at,
         },
-        Front::Small { end } => Ahead {
-            met: ANSWERED,
-            from: run.at + 2,
-            to: run.at + end,
-        },
-        Front::Record { kind: _, end } => Ahead {
-            met: ANSWERED,
+        Front::Small { end } | Front::Record { kind: _, end } => Ahead {
+            met: Met::Answered,
             from: run.at + 2,
             to: run.at + end,
         },
@@ -97,11 +95,9 @@ pub(crate) fn ahead_of(trace: &[u8], run: Run) -> Ahead
 pub(crate) fn order_for(run: Run, ahead: Ahead) -> Order
     ensures { result ≡ order_at run ahead }
 {
-    let seat = run.seat;
-    let core = run.core;
     Order {
-        seat,
-        core,
+        seat: run.seat,
+        core: run.core,
         from: ahead.from,
         to: ahead.to,
     }
@@ -111,25 +107,19 @@ pub(crate) fn order_for(run: Run, ahead: Ahead) -> Order
 pub(crate) fn close(out: &mut [u8], run: Run, ahead: Ahead, s: Stepped) -> Turned
     ensures { Closes run ahead s out.old result out.new }
 {
-    let seat = s.seat;
-    let core = s.core;
     let next = Run {
-        seat,
-        core,
+        seat: s.seat,
+        core: s.core,
         at: ahead.to,
         have: run.have,
     };
-    if ahead.met != MORE {
-        if ANSWER_SIZE <= out.len() {
-            if s.written <= out.len() - ANSWER_SIZE {
-                let written = put_answer(out, s.written, s.answer);
-                return Turned {
-                    run: next,
-                    written,
-                    met: ahead.met,
-                };
-            }
-        }
+    if ahead.met != Met::More && ANSWER_SIZE <= out.len() && s.written <= out.len() - ANSWER_SIZE {
+        let written = put_answer(out, s.written, s.answer);
+        return Turned {
+            run: next,
+            written,
+            met: ahead.met,
+        };
     }
     Turned {
         run: next,

@@ -1,9 +1,0 @@
--- The next line begins in the list, and behind this one.
-use Rattle.std.proofs.Common.{◌-◌, ◌≤◌, length}
-use Rattle.scenarios.proofs.play_all.Given as goal
-
-abbrev pub invariant-loop-at : goal.invariant-loop-at
-invariant-loop-at g l = l.at ≤ length l.names
-
-abbrev pub decreases-loop-at : goal.decreases-loop-at
-decreases-loop-at g l = length l.names - l.at
