@@ -1,6 +1,7 @@
 -- What the handlers share: laws of checks that answer a number, of authors, and of a record that counts as started. Assumes nothing.
 --     first-refused, first-passed, first-both     the first of two checks that is not passed
---     passes-first, passes-on, passes-no, passes-yes   what checks answer, one by one, and what their answer tells
+--     answer-no, answer-yes                       what an answer tells of its number
+--     passes-no, passes-yes, passes-first, passes-on   what checks answer, one by one
 --     found-no, found-yes                         .. the check of a certificate
 --     author-member                               an author whose check is passed is a member
 --     keeps-sound, sound-taken                    a record that counts as started is one after a move, and once a QC is taken
@@ -33,7 +34,7 @@ use Rattle.moves.specs.State.{State, whole}
 use Rattle.moves.specs.Outcome.{Did}
 use Rattle.moves.specs.Moves.{taken_qc}
 use Rattle.moves.proofs.MoveLaws.{Keeps, did-keeps, taken-keeps}
-use Rattle.handlers.specs.Sound.{Sound, first, signers_of, Passes}
+use Rattle.handlers.specs.Sound.{Sound, first, signers_of, Answers}
 
 -- ---- the first of two checks that is not passed
 
@@ -61,23 +62,29 @@ answer-no e i = sym (ap number i) ∙ e
 pub answer-yes : {n : ℕ} {x : Result Unit Refusal} {u : Unit} → number x ≡ n → x ≡ Ok u → n ≡ 0
 answer-yes e i = sym e ∙ ap number i
 
-module _ {a b : ℕ} {s : Signers} where
-  pub passes-first : {r : Refusal} → code r ≡ a → Passes (first a b) s (Err r)
-  passes-first {r} e = e ∙ sym (first-refused a b (λ z. code-some r (e ∙ z)))
+pub passes-no : {n : ℕ} {s : Signers} (r : Refusal) → code r ≡ n → Answers n s (Err r)
+passes-no r e =
+    record {
+      refused = λ q i. let p : r ≡ q = cc in ap code (sym p) ∙ e;
+      passed = λ y i. absurd (let z : ◌≡◌ {A = ℕ} 0 1 = cc in omega arith);
+    }
 
-  pub passes-on : {x : Result Signers Refusal} → a ≡ 0 → Passes b s x → Passes (first a b) s x
-  passes-on z p = rw (first-passed a b z) p
+pub passes-yes : {n : ℕ} {s y : Signers} → n ≡ 0 → y ≡ s → Answers n s (Ok y)
+passes-yes {s = s} {y = y} z e =
+    record {
+      refused = λ r i. absurd (let z : ◌≡◌ {A = ℕ} 0 1 = cc in omega arith);
+      passed = λ x i. let p : y ≡ x = cc in (z, sym p ∙ e);
+    }
 
-module _ {n : ℕ} {s : Signers} {x : Result Signers Refusal} where
-  pub passes-no : {r : Refusal} → Passes n s x → x ≡ Err r → code r ≡ n
-  passes-no p i = rw i at p
+pub passes-first : {a : ℕ} (b : ℕ) {s : Signers} (r : Refusal) → code r ≡ a → Answers (first a b) s (Err r)
+passes-first {a} b r e = passes-no r (e ∙ sym (first-refused a b (λ z. code-some r (e ∙ z))))
 
-  pub passes-yes : {y : Signers} → Passes n s x → x ≡ Ok y → (n ≡ 0) × (y ≡ s)
-  passes-yes p i = rw i at p
+pub passes-on : {a b : ℕ} {s : Signers} {x : Result Signers Refusal} → a ≡ 0 → Answers b s x → Answers (first a b) s x
+passes-on {a} {b} z p = rw (first-passed a b z) p
 
 module _ {c : Result Signers CertificateError} (q : ℕ) where
-  pub found-no : {e : CertificateError} {r : Refusal} → c ≡ Err e → code r ≡ number_of (Err e) q → code r ≡ number_of c q
-  found-no i f = rw i f
+  pub found-no : {e : CertificateError} (r : Refusal) → c ≡ Err e → code r ≡ number_of (Err e) q → code r ≡ number_of c q
+  found-no r i f = rw i f
 
   pub found-yes : {y : Signers} → c ≡ Ok y → (number_of c q ≡ 0) × (y ≡ signers_of c)
   found-yes i = rw i (refl, refl)

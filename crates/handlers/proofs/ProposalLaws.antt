@@ -5,7 +5,8 @@
 --     payload-ready, payload-absent, payload-invalid     `by_payload`
 --     proposal-leader, -qc, -tc, -taken                  `handle_proposal`
 use Prim.Native.Nat.{ℕ}
-use mathlib.Core.Bool.{true, false}
+use mathlib.Core.Bool.{Bool, true, false, cond}
+use lib.Dec.{eqb}
 use mathlib.Core.List.{List}
 use mathlib.Core.Path.{◌≡◌, refl, sym, ◌∙◌}
 use borrow.Author.Tests.{eq-eqb, ne_eqb}
@@ -29,10 +30,10 @@ use Rattle.moves.specs.Outcome.{Did}
 use Rattle.moves.specs.Moves.{advanced, taken_qc, advance_most}
 use Rattle.moves.specs.Tallied.{qc_of}
 use Rattle.moves.proofs.Outcomes.{did-quiet, did_then}
-use Rattle.handlers.specs.Sound.{signers_of, Passes}
+use Rattle.handlers.specs.Sound.{signers_of, Answers}
 use Rattle.moves.specs.declared.state.Ran.{Ran}
 use Rattle.handlers.specs.Proposals.{leader_check, qc_found, tc_number, proposal_check, advanced_tc, taken, taken_most, payload_number, payload_answer, by_payload, proposal_with, proposal_of, Proposes, payload_as}
-use Rattle.handlers.proofs.HandlerLaws.{answer-no, answer-yes, passes-first, passes-on, passes-no, passes-yes, found-no, found-yes}
+use Rattle.handlers.proofs.HandlerLaws.{answer-no, answer-yes, passes-no, passes-yes, passes-first, passes-on, found-no, found-yes}
 use Rattle.certificates.proofs.ErrorLaws.{code-some}
 
 -- ---- the checks
@@ -59,38 +60,38 @@ module _ (m : List ℕ) (b : Block) (input : List ℕ) where
     pub tc-passed : {y : Signers} → c ≡ Ok y → 0 ≡ tc_number m b input
     tc-passed i = sym (found-yes tc_requires_quorum i).0 ∙ tc-checked
 
-    pub tc-refused : {f : CertificateError} {r : Refusal} → c ≡ Err f → code r ≡ number_of (Err f) tc_requires_quorum → code r ≡ tc_number m b input
-    tc-refused i n = found-no tc_requires_quorum i n ∙ tc-checked
+    pub tc-refused : {f : CertificateError} (r : Refusal) → c ≡ Err f → code r ≡ number_of (Err f) tc_requires_quorum → code r ≡ tc_number m b input
+    tc-refused r i n = found-no tc_requires_quorum r i n ∙ tc-checked
 
 -- ---- all checks
 
+abbrev all : List ℕ → Block → List ℕ → ℕ
+all m b input = proposal_check m b input (qc_found m input)
+
+abbrev signed : List ℕ → List ℕ → Signers
+signed m input = signers_of (qc_found m input)
+
 module _ (m : List ℕ) (b : Block) (input : List ℕ) {l : Result Unit Refusal} (e : number l ≡ leader_check m b) where
-  abbrev all : ℕ
-  all = proposal_check m b input (qc_found m input)
-
-  abbrev signed : Signers
-  signed = signers_of (qc_found m input)
-
-  pub check-leader : {r : Refusal} → l ≡ Err r → Passes all signed (Err r)
+  pub check-leader : {r : Refusal} → l ≡ Err r → Answers (all m b input) (signed m input) (Err r)
   unfolding proposal_check
-  check-leader i = passes-first (answer-no e i)
+  check-leader i = passes-first _ _ (answer-no e i)
 
   module _ {u : Unit} (z : l ≡ Ok u) {need : ℕ} {part : List ℕ} {c : Result Signers CertificateError} (q : need ≡ quorum_of m) (p : part ≡ qc_part input block_qc) (f : c ≡ embedded_check m need part) where
     found : qc_found m input ≡ c
     found = rw (f, q, p)
 
-    pub check-qc : {w : CertificateError} {r : Refusal} → c ≡ Err w → code r ≡ number_of (Err w) qc_requires_quorum → Passes all signed (Err r)
+    pub check-qc : {w : CertificateError} (r : Refusal) → c ≡ Err w → code r ≡ number_of (Err w) qc_requires_quorum → Answers (all m b input) (signed m input) (Err r)
     unfolding proposal_check
-    check-qc i n = passes-on (answer-yes e z) (passes-first (found-no qc_requires_quorum (found ∙ i) n))
+    check-qc r i n = passes-on (answer-yes e z) (passes-first _ r (found-no qc_requires_quorum r (found ∙ i) n))
 
     module _ {y : Signers} (i : c ≡ Ok y) {t : Result Unit Refusal} (g : number t ≡ tc_number m b input) where
-      pub check-tc : {r : Refusal} → t ≡ Err r → Passes all signed (Err r)
+      pub check-tc : {r : Refusal} → t ≡ Err r → Answers (all m b input) (signed m input) (Err r)
       unfolding proposal_check
-      check-tc j = let k = found-yes qc_requires_quorum (found ∙ i) in passes-on (answer-yes e z) (passes-on k.0 (answer-no g j))
+      check-tc j = let k = found-yes qc_requires_quorum (found ∙ i) in passes-on (answer-yes e z) (passes-on k.0 (passes-no _ (answer-no g j)))
 
-      pub check-passed : {v : Unit} → t ≡ Ok v → Passes all signed (Ok y)
+      pub check-passed : {v : Unit} → t ≡ Ok v → Answers (all m b input) (signed m input) (Ok y)
       unfolding proposal_check
-      check-passed j = let k = found-yes qc_requires_quorum (found ∙ i) in passes-on (answer-yes e z) (passes-on k.0 (answer-yes g j, k.1))
+      check-passed j = let k = found-yes qc_requires_quorum (found ∙ i) in passes-on (answer-yes e z) (passes-on k.0 (passes-yes (answer-yes g j) k.1))
 
 -- ---- the certificates are taken
 
@@ -111,7 +112,7 @@ module _ (payload : ℕ) where
   pub payload-goes : is_ok (payload_answer payload) ≡ eqb payload 1
   payload-goes = cases (eqb payload 1) (eqb payload 0)
     where
-      cases : (u v : Bool) → is_ok (cond u (Ok tt) (cond v (Err refusal.WaitPayload) (Err refusal.InvalidPayload))) ≡ u
+      cases : (u v : Bool) → is_ok (cond u (Ok (tt {0})) (cond v (Err refusal.WaitPayload) (Err refusal.InvalidPayload))) ≡ u
       cases true v = refl
       cases false true = refl
       cases false false = refl
@@ -120,7 +121,7 @@ module _ (payload : ℕ) where
   unfolding payload_number
   payload-is = cases (eqb payload 1) (eqb payload 0)
     where
-      cases : (u v : Bool) → number (cond u (Ok tt) (cond v (Err refusal.WaitPayload) (Err refusal.InvalidPayload))) ≡ cond u 0 (cond v wait_payload invalid_payload)
+      cases : (u v : Bool) → number (cond u (Ok (tt {0})) (cond v (Err refusal.WaitPayload) (Err refusal.InvalidPayload))) ≡ cond u 0 (cond v wait_payload invalid_payload)
       cases true v = refl
       cases false true = refl
       cases false false = refl
@@ -128,17 +129,17 @@ module _ (payload : ℕ) where
 -- ---- the handler
 
 module _ (m : List ℕ) (core : Core) (votes timeouts out : List ℕ) (b : Block) (input : List ℕ) (payload : ℕ) {x : Result Signers Refusal}
-    (c : Passes (proposal_check m b input (qc_found m input)) (signers_of (qc_found m input)) x) where
+    (c : Answers (proposal_check m b input (qc_found m input)) (signers_of (qc_found m input)) x) where
   pub proposal-refused : {r : Refusal} → x ≡ Err r
       → Proposes taken_most (proposal_of m (whole core votes timeouts) b input payload) out 0 (record { answer = Err r; core = core; at = 0 }) votes timeouts out
   unfolding proposal_of proposal_with
   proposal-refused {r} i =
-      rw (← passes-no c i, ne_eqb (code r) 0 (code-some r)) (record { goes = refl; answer = refl; did = did-quiet taken_most core votes timeouts out 0 })
+      rw (← c.refused r i, ne_eqb (code r) 0 (code-some r)) (record { goes = refl; answer = refl; did = did-quiet taken_most core votes timeouts out 0 })
 
   pub proposal-taken : {y : Signers} {a : Moved} {r : Ran} {v' t' out' : List ℕ} → x ≡ Ok y
       → Did taken_most (taken (whole core votes timeouts) b y) out 0 a.core v' t' out' a.at → r ≡ payload_as a payload
       → Proposes taken_most (proposal_of m (whole core votes timeouts) b input payload) out 0 r v' t' out'
   unfolding proposal_of proposal_with by_payload
-  proposal-taken i w u =
-      let q = passes-yes c i in
+  proposal-taken {y} i w u =
+      let q = c.passed y i in
       rw (q.0, ← q.1, u) (record { goes = payload-goes payload; answer = payload-is payload; did = w })

@@ -14,7 +14,7 @@ use native.Mathlib.Omega.{arith}
 use borrow.Author.Tests.{eq-eqb, ne_eqb, eqb-true}
 use lib.Dec.{eqb}
 use lib.ListN.{length}
-use Rattle.std.specs.Prelude.{Result}
+use Rattle.std.specs.Prelude.{Result, is_ok}
 use Rattle.certificates.specs.declared.numbers.Signers.{Signers}
 use Rattle.certificates.specs.declared.error.CertificateError.{CertificateError}
 use Rattle.certificates.specs.Config.{total_max}
@@ -30,7 +30,7 @@ use Rattle.moves.specs.Tallied.{qc_of}
 use Rattle.moves.proofs.MoveLaws.{Keeps, keeps-none, keeps_then, advanced-keeps, taken-keeps}
 use Rattle.aggregator.specs.Tallies.{votes_length, timeouts_length}
 use Rattle.handlers.specs.Sound.{Sound, first, signers_of}
-use Rattle.handlers.specs.declared.proposals.Proposed.{Proposed}
+use Rattle.moves.specs.declared.state.Ran.{Ran}
 use Rattle.handlers.specs.Proposals.{leader_check, qc_found, tc_number, proposal_check, advanced_tc, taken, payload_number, by_payload, proposal_with, proposal_of, Proposes}
 use Rattle.handlers.proofs.HandlerLaws.{first-both, keeps-sound}
 
@@ -111,8 +111,8 @@ module _ (m : List ℕ) (s : State) (b : Block) (input : List ℕ) (payload : �
   proposal-early h i j = from-early (eqb (proposal_check m b input (qc_found m input)) 0) (proposal_check m b input (qc_found m input)) (taken s b (signers_of (qc_found m input))) h i j
 
 -- what the code that handles a proposal did, where the block goes on
-pub proposes-on : {k at : ℕ} {r : Proposed} {out v t out' : List ℕ} (m : List ℕ) (s : State) (b : Block) (input : List ℕ) (payload : ℕ)
-    → Proposes k (proposal_of m s b input payload) out at r v t out' → r.goes_on ≡ true → Did k (taken s b (signers_of (qc_found m input))) out at r.core v t out' r.at
+pub proposes-on : {k at : ℕ} {r : Ran} {out v t out' : List ℕ} (m : List ℕ) (s : State) (b : Block) (input : List ℕ) (payload : ℕ)
+    → Proposes k (proposal_of m s b input payload) out at r v t out' → is_ok r.answer ≡ true → Did k (taken s b (signers_of (qc_found m input))) out at r.core v t out' r.at
 proposes-on m s b input payload p h = rw (proposal-goes-on m s b input payload (sym p.goes ∙ h)) at p.did
 
 -- ---- what taking the certificates leaves as it was

@@ -29,7 +29,7 @@ use Rattle.moves.specs.Outcome.{Did, Reached}
 use Rattle.moves.specs.Moves.{taken_qc, advance_most, time_out_most}
 use Rattle.moves.specs.Tallied.{qc_of, timeout_tallied}
 use Rattle.moves.proofs.Outcomes.{reached-after, reached-checked-refused, reached-checked-passed}
-use Rattle.handlers.specs.Sound.{signers_of, Passes}
+use Rattle.handlers.specs.Sound.{signers_of, Answers}
 use Rattle.handlers.specs.Timeouts.{timeout_check, timeout_qc_found, timeout_number, timeout_taken, timeout_with, handled_timeout, handle_timeout_most}
 use Rattle.handlers.proofs.HandlerLaws.{first-both, author-member, answer-no, answer-yes, passes-first, passes-on, passes-no, passes-yes, found-no, found-yes}
 
@@ -55,19 +55,19 @@ module _ (m : List ℕ) (current : ℕ) (t : Timeout) where
 -- ---- the checks
 
 module _ (m : List ℕ) (current : ℕ) (t : Timeout) (r : List ℕ) {a : Result Unit Refusal} (e : number a ≡ timeout_check m current t) where
-  pub check-timeout : {f : Refusal} → a ≡ Err f → Passes (timeout_number m current t (timeout_qc_found m r)) (signers_of (timeout_qc_found m r)) (Err f)
-  check-timeout i = passes-first (answer-no e i)
+  pub check-timeout : {f : Refusal} → a ≡ Err f → Answers (timeout_number m current t (timeout_qc_found m r)) (signers_of (timeout_qc_found m r)) (Err f)
+  check-timeout i = passes-first _ _ (answer-no e i)
 
   module _ {u : Unit} (z : a ≡ Ok u) {need : ℕ} {part : List ℕ} {x : Result Signers CertificateError} (q : need ≡ quorum_of m) (p : part ≡ qc_part r timeout_qc) (w : x ≡ embedded_check m need part) where
     found : timeout_qc_found m r ≡ x
     found = rw (w, q, p)
 
-    pub check-timeout-qc : {c : CertificateError} {f : Refusal} → x ≡ Err c → code f ≡ number_of (Err c) qc_requires_quorum
-        → Passes (timeout_number m current t (timeout_qc_found m r)) (signers_of (timeout_qc_found m r)) (Err f)
-    check-timeout-qc i n = passes-on (answer-yes e z) (found-no qc_requires_quorum (found ∙ i) n)
+    pub check-timeout-qc : {c : CertificateError} (f : Refusal) → x ≡ Err c → code f ≡ number_of (Err c) qc_requires_quorum
+        → Answers (timeout_number m current t (timeout_qc_found m r)) (signers_of (timeout_qc_found m r)) (Err f)
+    check-timeout-qc f i n = passes-on (answer-yes e z) (passes-no f (found-no qc_requires_quorum f (found ∙ i) n))
 
-    pub check-timeout-passed : {y : Signers} → x ≡ Ok y → Passes (timeout_number m current t (timeout_qc_found m r)) (signers_of (timeout_qc_found m r)) (Ok y)
-    check-timeout-passed i = passes-on (answer-yes e z) (found-yes qc_requires_quorum (found ∙ i))
+    pub check-timeout-passed : {y : Signers} → x ≡ Ok y → Answers (timeout_number m current t (timeout_qc_found m r)) (signers_of (timeout_qc_found m r)) (Ok y)
+    check-timeout-passed i = let p = found-yes qc_requires_quorum (found ∙ i) in passes-on (answer-yes e z) (passes-yes p.0 p.1)
 
 -- ---- the QC is taken, and the timeout counted
 
@@ -84,17 +84,17 @@ module _ (m : List ℕ) (own : ℕ) (core : Core) (votes timeouts : List ℕ) (t
 -- ---- the handler
 
 module _ (m : List ℕ) (own : ℕ) (core : Core) (votes timeouts out : List ℕ) (t : Timeout) (r : List ℕ) {x : Result Signers Refusal}
-    (c : Passes (timeout_number m core.round.0 t (timeout_qc_found m r)) (signers_of (timeout_qc_found m r)) x) where
+    (c : Answers (timeout_number m core.round.0 t (timeout_qc_found m r)) (signers_of (timeout_qc_found m r)) x) where
   pub timeout-refused : {f : Refusal} → x ≡ Err f
       → Reached handle_timeout_most (handled_timeout m own (whole core votes timeouts) t r) out 0 (record { answer = Err f; core = core; at = 0 }) votes timeouts out
   unfolding handled_timeout timeout_with
-  timeout-refused {f} i = rw (← passes-no c i) (reached-checked-refused handle_timeout_most f core votes timeouts out 0 _)
+  timeout-refused {f} i = rw (← c.refused f i) (reached-checked-refused handle_timeout_most f core votes timeouts out 0 _)
 
   module _ {y : Signers} (i : x ≡ Ok y) where
     pub timeout-known : t.author.0 < length m
-    timeout-known = timeout-member m core.round.0 t (first-both (timeout_check m core.round.0 t) _ (passes-yes c i).0).0
+    timeout-known = timeout-member m core.round.0 t (first-both (timeout_check m core.round.0 t) _ (c.passed y i).0).0
 
     pub timeout-passed : {a : Ran} {v w out' : List ℕ} → Reached handle_timeout_most (timeout_taken m own (whole core votes timeouts) t y) out 0 a v w out'
         → Reached handle_timeout_most (handled_timeout m own (whole core votes timeouts) t r) out 0 a v w out'
     unfolding handled_timeout timeout_with
-    timeout-passed d = let q = passes-yes c i in reached-checked-passed _ (whole core votes timeouts) q.0 (rw (← q.1) d)
+    timeout-passed d = let q = c.passed y i in reached-checked-passed _ (whole core votes timeouts) q.0 (rw (← q.1) d)

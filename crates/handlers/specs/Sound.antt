@@ -2,7 +2,7 @@
 --     Sound m own votes timeouts     the committee and the own place within the limits, tallies of the right sizes and none too heavy
 --     first a b                      the first of two checks that is not passed
 --     signers_of c                   the signers that a check accepted; none where it did not
---     Passes n s r                   r is the answer of checks whose number is n, and which accept the signers s
+--     Answers n s r                  r is the answer of checks whose number is n, and which accept the signers s
 use Rattle.std.specs.Prelude.{ℕ, ◌≤◌, ◌<◌, cond, List, ◌≡◌, eqb, length, Result, Ok, Err}
 use Rattle.certificates.specs.Config.{members_max, total_max, sum}
 use Rattle.certificates.specs.declared.numbers.Signers.{Signers}
@@ -29,6 +29,6 @@ signers_of (Ok s) = s
 signers_of (Err e) = record { 0 = 0 }
 
 -- what checks answer whose number is n, with the signers s where they are passed
-abbrev pub Passes : ℕ → Signers → Result Signers Refusal → Type 0
-Passes n s (Ok x) = (n ≡ 0) × (x ≡ s)
-Passes n s (Err r) = code r ≡ n
+pub record Answers (n : ℕ) (s : Signers) (x : Result Signers Refusal) : Type 0 where
+  pub refused : (r : Refusal) → x ≡ Err r → code r ≡ n
+  pub passed : (y : Signers) → x ≡ Ok y → (n ≡ 0) × (y ≡ s)

@@ -6,7 +6,7 @@ ghost use Rattle.certificates.specs.Numbers.{round_max};
 ghost use Rattle.aggregator.specs.Tallies.{votes_length, timeouts_length};
 ghost use Rattle.moves.specs.State.{whole};
 ghost use Rattle.moves.specs.Outcome.{Did};
-ghost use Rattle.handlers.specs.Sound.{signers_of, Passes};
+ghost use Rattle.handlers.specs.Sound.{signers_of, Answers};
 ghost use Rattle.handlers.specs.Proposals.{leader_check, qc_found, tc_number, proposal_check, taken, taken_most, proposal_of, Proposes, payload_as};
 
 use certificates::error::{Answer, Refusal};
@@ -55,7 +55,7 @@ fn check_proposal(
     input: &[u8],
 ) -> Result<Signers, Refusal>
     requires { need.0 ≡ quorum_of members.now }
-    ensures { Passes (proposal_check members.now b input.now (qc_found members.now input.now)) (signers_of (qc_found members.now input.now)) result }
+    ensures { Answers (proposal_check members.now b input.now (qc_found members.now input.now)) (signers_of (qc_found members.now input.now)) result }
 {
     leader_check(members, b)?;
     match check_embedded_qc(members, need, qc_part(input, BLOCK_QC)) {

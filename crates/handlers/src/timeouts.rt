@@ -8,7 +8,7 @@ ghost use Rattle.moves.specs.State.{whole};
 ghost use Rattle.moves.specs.Outcome.{Did, Reached};
 ghost use Rattle.moves.specs.Moves.{time_out_most};
 ghost use Rattle.moves.specs.Tallied.{timeout_tallied};
-ghost use Rattle.handlers.specs.Sound.{Sound, signers_of, Passes};
+ghost use Rattle.handlers.specs.Sound.{Sound, signers_of, Answers};
 ghost use Rattle.handlers.specs.Timeouts.{timeout_check, timeout_qc_found, timeout_number, timeout_taken, tc_event_number, handled_timeout, tc_taken, handled_tc, voted_up, TicksTo, own_timeout, handled_tick};
 ghost use Rattle.handlers.specs.Timeouts.{handle_timeout_most, handle_tc_most, tick_most, local_timeout_most};
 
@@ -20,7 +20,7 @@ use certificates::messages::{QC, check_author, check_embedded_qc, check_tc};
 use certificates::numbers::{Place, ROUND_MAX, Round, Signers, Stake};
 use moves::rounds::{advance_round, generate_proposal_with, process_qc, time_out};
 use moves::state::{Core, Moved, Ran};
-use moves::tallies::added_answer;
+use moves::tallies::added_refusal;
 use outputs::records::{put_timeout, put_timer_reset};
 use trace::events::{TC_BODY, TIMEOUT_QC, Timeout, highs_of, qc_part, tc_part};
 
@@ -44,7 +44,7 @@ fn check_timeout(
     t: Timeout,
 ) -> Result<Signers, Refusal>
     requires { need.0 ≡ quorum_of members.now }
-    ensures { Passes (timeout_number members.now current.0 t input.now) (signers_of (timeout_qc_found members.now input.now)) result }
+    ensures { Answers (timeout_number members.now current.0 t (timeout_qc_found members.now input.now)) (signers_of (timeout_qc_found members.now input.now)) result }
 {
     timeout_check(members, current, t)?;
     match check_embedded_qc(members, need, qc_part(input, TIMEOUT_QC)) {
@@ -72,21 +72,29 @@ fn count_timeout(
     ensures { Reached time_out_most (timeout_tallied members.now own.0 need.0 (whole core votes.old timeouts.old) round.0 author.0 (stake_of members.now author.0) high.0) out.old at result votes.new timeouts.new out.new }
 {
     let held = stake(members, author);
-    let a = add_timeout(timeouts, round, author, held, need, high);
-    if let Added::Full(i, names) = a {
-        let m = time_out(
-            members, own, core, votes, timeouts, out, at, round, i, names,
-        );
-        return Ran {
-            answer: DONE,
-            core: m.core,
-            at: m.at,
-        };
-    }
-    Ran {
-        answer: added_number(a),
-        core,
-        at,
+    match add_timeout(timeouts, round, author, held, need, high) {
+        Ok(added) => match added {
+            Some(quorum) => {
+                let row = quorum.row;
+                let names = quorum.signers;
+                let m = time_out(members, own, core, votes, timeouts, out, at, round, row, names);
+                Ran {
+                    answer: Ok(()),
+                    core: m.core,
+                    at: m.at,
+                }
+            }
+            None => Ran {
+                answer: Ok(()),
+                core,
+                at,
+            },
+        },
+        Err(e) => Ran {
+            answer: Err(added_refusal(e)),
+            core,
+            at,
+        },
     }
 }
 
@@ -173,7 +181,7 @@ fn check_received_tc(
     part: &[u8],
     round: Round,
 ) -> Result<Signers, Refusal>
-    ensures { Passes (tc_event_number current.0 round.0 (tc_check members.now need.0 part.now)) (signers_of (tc_check members.now need.0 part.now)) result }
+    ensures { Answers (tc_event_number current.0 round.0 (tc_check members.now need.0 part.now)) (signers_of (tc_check members.now need.0 part.now)) result }
 {
     match check_tc(members, need, part) {
         Ok(_) if round.0 < current.0 => Err(Refusal::Stale),

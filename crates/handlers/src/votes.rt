@@ -19,7 +19,7 @@ use certificates::messages::{QC, check_author};
 use certificates::numbers::{Hash, Place, Round, Stake};
 use moves::rounds::certify;
 use moves::state::{Core, Ran};
-use moves::tallies::added_answer;
+use moves::tallies::added_refusal;
 use outputs::records::put_vote;
 use trace::events::{Block, Vote};
 
@@ -53,24 +53,32 @@ fn count_vote(
     ensures { Reached certify_most (vote_tallied members.now own.0 need.0 (whole core votes.old timeouts.old) hash round.0 author.0 (stake_of members.now author.0)) out.old at result votes.new timeouts.new out.new }
 {
     let held = stake(members, author);
-    let a = add_vote(votes, round, hash, author, held, need);
-    if let Ok(Some(quorum)) = a {
-        let qc = QC {
-            hash,
-            round,
-            signers: quorum.signers,
-        };
-        let m = certify(members, own, core, votes, timeouts, out, at, qc);
-        return Ran {
-            answer: Ok(()),
-            core: m.core,
-            at: m.at,
-        };
-    }
-    Ran {
-        answer: added_answer(a),
-        core,
-        at,
+    match add_vote(votes, round, hash, author, held, need) {
+        Ok(added) => match added {
+            Some(quorum) => {
+                let qc = QC {
+                    hash,
+                    round,
+                    signers: quorum.signers,
+                };
+                let m = certify(members, own, core, votes, timeouts, out, at, qc);
+                Ran {
+                    answer: Ok(()),
+                    core: m.core,
+                    at: m.at,
+                }
+            }
+            None => Ran {
+                answer: Ok(()),
+                core,
+                at,
+            },
+        },
+        Err(e) => Ran {
+            answer: Err(added_refusal(e)),
+            core,
+            at,
+        },
     }
 }
 
@@ -101,6 +109,7 @@ pub fn handle_vote(
 }
 
 // The block extends its QC's round, or a TC's whose high rounds are not above the QC's.
+#[tactic(auto, unfolding(crate::specs::Votes::extends))]
 fn is_extending(b: Block) -> bool
     requires { (b.qc_round.0 ≤ round_max) × (b.tc_round.0 ≤ round_max) }
     ensures { result ≡ extends b }
@@ -110,6 +119,7 @@ fn is_extending(b: Block) -> bool
 }
 
 // Both rules: safety_rule_1 and safety_rule_2.
+#[tactic(auto, unfolding(crate::specs::Votes::may_vote))]
 fn may_vote(core: Core, b: Block) -> bool
     requires { (b.qc_round.0 ≤ round_max) × (b.tc_round.0 ≤ round_max) }
     ensures { result ≡ may_vote core b }
@@ -189,8 +199,15 @@ pub fn make_vote(
     requires { Sound members.now own.0 votes.old timeouts.old × (need.0 ≡ quorum_of members.now) × (b.round.0 ≤ round_max) × (b.qc_round.0 ≤ round_max) × (b.tc_round.0 ≤ round_max) × (at + voting_most ≤ length out.old) }
     ensures { Reached voting_most (voting members.now own.0 b (whole core votes.old timeouts.old)) out.old at result votes.new timeouts.new out.new }
 {
-    if b.round.0 == core.round.0 && may_vote(core, b) {
-        return send_vote(members, own, need, core, votes, timeouts, out, at, b);
+    if b.round.0 == core.round.0 {
+        if may_vote(core, b) {
+            return send_vote(members, own, need, core, votes, timeouts, out, at, b);
+        }
+        return Ran {
+            answer: Ok(()),
+            core,
+            at,
+        };
     }
     Ran {
         answer: Ok(()),

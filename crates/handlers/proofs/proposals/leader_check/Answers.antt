@@ -1,11 +1,13 @@
--- `handlers::proposals::leader_check` meets its contract: each way out by the test that led there.
--- Assumes nothing.
+-- `handlers::proposals::leader_check` meets its contract: another leader, or what the author's check gives. Assumes nothing.
 use borrow.Author.Rules.{rules}
-use Rattle.handlers.proofs.ProposalLaws.{leader-author, leader-other}
+use Rattle.handlers.proofs.ProposalLaws.{leader-other, leader-author}
 use Rattle.handlers.proofs.proposals.leader_check.Goals as goal
 
-pub returns-then-leader-b : goal.returns-then-leader-b
-returns-then-leader-b c = search (rules, leader-author)
+pub returns-then-ne : goal.returns-then-ne
+returns-then-ne c = search (rules, leader-other)
 
 pub returns : goal.returns
-returns c = search (rules, leader-other)
+returns c = search (rules, leader-author)
+
+pub returns-in_err-check_author : goal.returns-in_err-check_author
+returns-in_err-check_author c = search (rules, leader-author)

@@ -1,14 +1,19 @@
--- `handlers::votes::count_vote` meets its contract: the vote is counted, short of the quorum or with it. Assumes nothing.
+-- `handlers::votes::count_vote` meets its contract: it is counted, short of the quorum or with it, or not counted. Assumes nothing.
 use borrow.Author.Rules.{rules}
-use Rattle.moves.proofs.TallyLaws.{vote-tallied-short, vote-tallied-full}
+use mathlib.Core.Path.{ap, ◌∙◌}
+use Rattle.std.specs.Prelude.{Ok}
+use Rattle.moves.proofs.TallyLaws.{vote-tallied-short, vote-tallied-refused, vote-tallied-full}
 use Rattle.handlers.proofs.HandlerLaws.{sound-counts-vote}
 use Rattle.handlers.proofs.votes.count_vote.Goals as goal
 
-pub add_vote-a-requires : goal.add_vote-a-requires
-add_vote-a-requires c = search (rules, sound-counts-vote)
+pub add_vote-requires : goal.add_vote-requires
+add_vote-requires c = search (rules, sound-counts-vote)
 
-pub returns-in-Full : goal.returns-in-Full
-returns-in-Full c = rw (← c.stake-held.ensures) (vote-tallied-full _ _ _ _ _ _ _ _ _ _ _ _ c.add_vote-a.ensures c.in-Full.is c.certify-m.ensures)
+pub returns-in-Some : goal.returns-in-Some
+returns-in-Some c = rw (← c.stake-held.ensures) (vote-tallied-full _ _ _ _ _ _ _ _ _ _ _ _ c.add_vote.ensures (c.in-Ok.is ∙ ap Ok c.in-Some.is) c.certify-m.ensures)
 
-pub returns : goal.returns
-returns c = rw (← c.stake-held.ensures) (vote-tallied-short _ _ _ _ _ _ _ _ _ _ _ _ c.add_vote-a.ensures c.in_default.not-Full c.added_number.ensures)
+pub returns-in-None : goal.returns-in-None
+returns-in-None c = rw (← c.stake-held.ensures) (vote-tallied-short _ _ _ _ _ _ _ _ _ _ _ _ c.add_vote.ensures (c.in-Ok.is ∙ ap Ok c.in-None.is))
+
+pub returns-in-Err : goal.returns-in-Err
+returns-in-Err c = rw (← c.stake-held.ensures) (vote-tallied-refused _ _ _ _ _ _ _ _ _ _ _ _ c.add_vote.ensures c.in-Err.is c.added_refusal.ensures)
