@@ -5,7 +5,7 @@
 use Prim.Native.Nat.{ℕ, ◌≤◌, ◌<◌}
 use mathlib.Core.List.{List}
 use mathlib.Core.Path.{◌≡◌}
-use borrow.Author.Tests.{ne_eqb, lt-ltb, le-ltb}
+use borrow.Author.Tests.{lt-ltb, le-ltb}
 use Rattle.std.specs.Prelude.{Result, Ok, Err}
 use Rattle.certificates.specs.declared.numbers.Signers.{Signers}
 use Rattle.certificates.specs.declared.error.CertificateError.{CertificateError}
@@ -13,7 +13,7 @@ use Rattle.certificates.specs.Config.{quorum_of}
 use Rattle.certificates.specs.Messages.{tc_check}
 use Rattle.certificates.specs.declared.error.Refusal.{Refusal}
 use Rattle.certificates.specs.declared.error.Refusal.TheVariants as refusal
-use Rattle.certificates.specs.Error.{code, stale, tc_requires_quorum, number_of}
+use Rattle.certificates.specs.Error.{code, tc_requires_quorum, number_of}
 use Rattle.trace.specs.Layout.{tc_body, tc_part, highs_of}
 use Rattle.outputs.specs.Records.{make_with_most}
 use Rattle.outputs.specs.Put.{Wrote}

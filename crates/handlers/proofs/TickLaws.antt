@@ -6,7 +6,7 @@
 use Prim.Native.Nat.{ℕ, ◌≤◌, ◌<◌}
 use mathlib.Core.List.{List}
 use mathlib.Core.Path.{◌≡◌, refl, sym, ◌∙◌}
-use borrow.Author.Tests.{ne_eqb, lt-ltb, le-ltb}
+use borrow.Author.Tests.{lt-ltb, le-ltb}
 use Rattle.std.specs.Prelude.{Result, Ok, Err}
 use Rattle.certificates.specs.declared.numbers.Stake.{Stake}
 use Rattle.certificates.specs.declared.error.AuthorError.{AuthorError}
@@ -14,7 +14,7 @@ use Rattle.certificates.specs.Config.{stake_of, quorum_of}
 use Rattle.certificates.specs.Messages.{author_check}
 use Rattle.certificates.specs.declared.error.Refusal.{Refusal}
 use Rattle.certificates.specs.declared.error.Refusal.TheVariants as refusal
-use Rattle.certificates.specs.Error.{code, round_too_high, author_number}
+use Rattle.certificates.specs.Error.{code, author_number}
 use Rattle.certificates.specs.Numbers.{round_max}
 use Rattle.outputs.specs.Records.{timer_reset, timeout, enc, timer_reset_size, timeout_size}
 use Rattle.outputs.specs.Put.{Put}

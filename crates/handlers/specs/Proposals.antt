@@ -22,7 +22,6 @@ use Rattle.certificates.specs.declared.error.Refusal.TheVariants as refusal
 use Rattle.certificates.specs.Error.{number, wait_payload, wrong_leader, qc_requires_quorum, tc_requires_quorum, invalid_payload, number_of, author_number}
 use Rattle.trace.specs.declared.events.Block.{Block}
 use Rattle.trace.specs.Layout.{block_qc, qc_part, tc_part}
-use Rattle.moves.specs.declared.state.Core.{Core}
 use Rattle.moves.specs.declared.state.Moved.{Moved}
 use Rattle.moves.specs.declared.state.Ran.{Ran}
 use Rattle.moves.specs.State.{State}

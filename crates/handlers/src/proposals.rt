@@ -26,11 +26,12 @@ const READY: u8 = 1;
 fn leader_check(members: &[u32], b: Block) -> Answer
     ensures { number result ≡ leader_check members.now b }
 {
-    if get_leader(members, b.round) != b.author {
-        return Err(Refusal::WrongLeader);
+    let leader = get_leader(members, b.round);
+    if leader.0 == b.author.0 {
+        check_author(members, b.author, b.verdict)?;
+        return Ok(());
     }
-    check_author(members, b.author, b.verdict)?;
-    Ok(())
+    Err(Refusal::WrongLeader)
 }
 
 // The block's TC, if it has one.
@@ -48,12 +49,7 @@ fn tc_check(members: &[u32], need: Stake, b: Block, input: &[u8]) -> Answer
 }
 
 // The checks in 01's order. b is the record's block; its certificates are checked where they lie.
-fn check_proposal(
-    members: &[u32],
-    need: Stake,
-    b: Block,
-    input: &[u8],
-) -> Result<Signers, Refusal>
+fn check_proposal(members: &[u32], need: Stake, b: Block, input: &[u8]) -> Result<Signers, Refusal>
     requires { need.0 ≡ quorum_of members.now }
     ensures { Answers (proposal_check members.now b input.now (qc_found members.now input.now)) (signers_of (qc_found members.now input.now)) result }
 {

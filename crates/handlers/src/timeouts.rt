@@ -77,7 +77,9 @@ fn count_timeout(
             Some(quorum) => {
                 let row = quorum.row;
                 let names = quorum.signers;
-                let m = time_out(members, own, core, votes, timeouts, out, at, round, row, names);
+                let m = time_out(
+                    members, own, core, votes, timeouts, out, at, round, row, names,
+                );
                 Ran {
                     answer: Ok(()),
                     core: m.core,
@@ -140,9 +142,7 @@ pub fn handle_timeout(
     ensures { Reached handle_timeout_most (handled_timeout members.now own.0 (whole core votes.old timeouts.old) t input.now) out.old 0 result votes.new timeouts.new out.new }
 {
     match check_timeout(members, need, core.round, input, t) {
-        Ok(signers) => {
-            take_timeout(members, own, need, core, votes, timeouts, out, t, signers)
-        }
+        Ok(signers) => { take_timeout(members, own, need, core, votes, timeouts, out, t, signers) }
         Err(refusal) => Ran {
             answer: Err(refusal),
             core,

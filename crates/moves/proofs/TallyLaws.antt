@@ -1,23 +1,23 @@
 -- Laws of what follows from counting a vote or a timeout: one for each way out, and what is kept. Assumes nothing.
 --     vote-tallied-is, timeout-tallied-is              the definitions, by what the tally answers
---     Short a                                          the tally has no quorum
---     vote-tallied-short, timeout-tallied-short        then the answer is its number, and only the table may change
+--     vote-tallied-short, timeout-tallied-short        short of the quorum nothing more is done
+--     vote-tallied-refused, timeout-tallied-refused    what is not counted is refused, and changes nothing
 --     vote-tallied-full, timeout-tallied-full          at the quorum: what follows from it
 --     vote-tallied-keeps, timeout-tallied-keeps        what is left as it was
 use Prim.Native.Nat.{ℕ, suc, ◌≤◌}
 use mathlib.Core.List.{List}
 use mathlib.Core.Path.{◌≡◌, refl, sym, ◌∙◌}
 use native.Mathlib.Nat.{le_refl}
+use native.Mathlib.Omega.{arith}
 use lib.ListN.{length}
-use Rattle.std.specs.Prelude.{Result}
 use Rattle.aggregator.specs.declared.tallies.Quorum.{Quorum}
+use Rattle.aggregator.specs.declared.tallies.AddError.{AddError}
 use Rattle.certificates.specs.declared.error.Refusal.{Refusal}
-use Rattle.certificates.specs.Error.{number}
+use Rattle.certificates.specs.Error.{code}
 use Rattle.std.specs.Prelude.{None, Some, Ok, Err}
 use Rattle.aggregator.specs.declared.tallies.AddError.TheVariants.{NoRoom, Used}
 use Rattle.certificates.specs.declared.numbers.Hash.{Hash}
-use Rattle.certificates.specs.declared.numbers.Signers.{Signers}
-use Rattle.aggregator.specs.Tally.{AddedAs, Added, quorum_at}
+use Rattle.aggregator.specs.Tally.{AddedAs, Added}
 use Rattle.aggregator.specs.Tallies.{votes_length, timeouts_length, highs_at, vote_added, votes_after, timeout_added, timeouts_after}
 use Rattle.aggregator.proofs.Laws.{vote-no-room, vote-used, votes-after-length, votes-after-light, timeout-no-room, timeout-used, timeouts-after-length, timeouts-after-light}
 use Rattle.moves.specs.declared.state.Core.{Core}
@@ -42,9 +42,15 @@ timeout-tallied-is m own need s round p stake high = refl
 
 -- ---- short of the quorum
 
--- no quorum, as a test in code tells it
-abbrev pub Short : Added → Type 0
+-- no quorum
+abbrev Short : Added → Type 0
 Short a = (q : Quorum) → a ≡ Ok (Some q) → ⊥
+
+short-none : {a : Added} → a ≡ Ok None → Short a
+short-none {a} e q i = absurd (let p : ◌≡◌ {A = Added} (Ok None) (Ok (Some q)) = sym e ∙ i in let z : ◌≡◌ {A = ℕ} 0 1 = cc in omega arith)
+
+short-no : {a : Added} {e : AddError} → a ≡ Err e → Short a
+short-no {a} {e} f q i = absurd (let p : ◌≡◌ {A = Added} (Err e) (Ok (Some q)) = sym f ∙ i in let z : ◌≡◌ {A = ℕ} 0 1 = cc in omega arith)
 
 -- ---- a vote
 
@@ -59,9 +65,13 @@ module _ (m : List ℕ) (own need : ℕ) (core : Core) (votes timeouts out : Lis
   vote-stays (Ok None) e h = refl
   vote-stays (Ok (Some q)) e h = absurd (h _ refl)
 
-  pub vote-tallied-short : {x : Result Unit Refusal} → Short a → number x ≡ added_number a
-      → Reached certify_most (vote_tallied m own need (whole core votes timeouts) hash round p stake) out at (record { answer = x; core = core; at = at }) v timeouts out
-  vote-tallied-short {x} h e = rw (vote-counted, vote-stays a refl h, ← e) (reached-refused certify_most x core v timeouts out at)
+  pub vote-tallied-short : {u : Unit} → a ≡ Ok None
+      → Reached certify_most (vote_tallied m own need (whole core votes timeouts) hash round p stake) out at (record { answer = Ok u; core = core; at = at }) v timeouts out
+  vote-tallied-short e = rw (vote-counted, vote-stays a refl (short-none e), e) (reached-refused certify_most (Ok tt) core v timeouts out at)
+
+  pub vote-tallied-refused : {e : AddError} {r : Refusal} → a ≡ Err e → code r ≡ added_number (Err e)
+      → Reached certify_most (vote_tallied m own need (whole core votes timeouts) hash round p stake) out at (record { answer = Err r; core = core; at = at }) v timeouts out
+  vote-tallied-refused {e} {r} i f = rw (vote-counted, vote-stays a refl (short-no i), i, ← f) (reached-refused certify_most (Err r) core v timeouts out at)
 
   pub vote-tallied-full : {q : Quorum} {c : Core} {v' t' out' : List ℕ} {next : ℕ} → a ≡ Ok (Some q)
       → Did certify_most (certified m own (whole core v timeouts) (qc_of hash round q.signers)) out at c v' t' out' next
@@ -81,9 +91,13 @@ module _ (m : List ℕ) (own need : ℕ) (core : Core) (votes timeouts out : Lis
   timeout-stays (Ok None) e h = refl
   timeout-stays (Ok (Some q)) e h = absurd (h _ refl)
 
-  pub timeout-tallied-short : {x : Result Unit Refusal} → Short a → number x ≡ added_number a
-      → Reached time_out_most (timeout_tallied m own need (whole core votes timeouts) round p stake high) out at (record { answer = x; core = core; at = at }) votes t out
-  timeout-tallied-short {x} h e = rw (timeout-counted, timeout-stays a refl h, ← e) (reached-refused time_out_most x core votes t out at)
+  pub timeout-tallied-short : {u : Unit} → a ≡ Ok None
+      → Reached time_out_most (timeout_tallied m own need (whole core votes timeouts) round p stake high) out at (record { answer = Ok u; core = core; at = at }) votes t out
+  timeout-tallied-short e = rw (timeout-counted, timeout-stays a refl (short-none e), e) (reached-refused time_out_most (Ok tt) core votes t out at)
+
+  pub timeout-tallied-refused : {e : AddError} {r : Refusal} → a ≡ Err e → code r ≡ added_number (Err e)
+      → Reached time_out_most (timeout_tallied m own need (whole core votes timeouts) round p stake high) out at (record { answer = Err r; core = core; at = at }) votes t out
+  timeout-tallied-refused {e} {r} i f = rw (timeout-counted, timeout-stays a refl (short-no i), i, ← f) (reached-refused time_out_most (Err r) core votes t out at)
 
   pub timeout-tallied-full : {q : Quorum} {c : Core} {v' t' out' : List ℕ} {next : ℕ} → a ≡ Ok (Some q)
       → Did time_out_most (timed_out m own (whole core votes t) round q.signers.0 (highs_at t q.row)) out at c v' t' out' next

@@ -1,18 +1,17 @@
-// The answers to a counted vote or timeout.
-ghost use Rattle.std.specs.Prelude.{◌≡◌};
-ghost use Rattle.certificates.specs.Error.{number};
+// The answers to a vote or a timeout that is not counted.
+ghost use Rattle.std.specs.Prelude.{◌≡◌, Err};
+ghost use Rattle.certificates.specs.Error.{code};
 ghost use Rattle.moves.specs.Tallied.{added_number};
 
-use aggregator::tallies::{AddError, Added};
-use certificates::error::{Answer, Refusal};
+use aggregator::tallies::AddError;
+use certificates::error::Refusal;
 
-// What became of a vote or a timeout, as an answer.
-pub fn added_answer(a: Added) -> Answer
-    ensures { number result ≡ added_number a }
+// Why a vote or a timeout is not counted, as a refusal.
+pub fn added_refusal(e: AddError) -> Refusal
+    ensures { code result ≡ added_number (Err e) }
 {
-    match a {
-        Ok(_) => Ok(()),
-        Err(AddError::NoRoom) => Err(Refusal::TalliesFull),
-        Err(AddError::Used) => Err(Refusal::AuthorityReuse),
+    match e {
+        AddError::NoRoom => Refusal::TalliesFull,
+        AddError::Used => Refusal::AuthorityReuse,
     }
 }
