@@ -6,12 +6,17 @@ use mathlib.Core.Path.{◌≡◌, refl, sym, ◌∙◌, ap}
 use native.Mathlib.Omega.{arith}
 use borrow.Author.Tests.{ne_eqb}
 use lib.ListN.{length, take, drop}
-use Rattle.std.specs.Prelude.{Option, None, Some}
+use Rattle.std.specs.Prelude.{Option, None, Some, Ok, Err, is_ok}
+use Rattle.std.specs.Prelude as std
+use Rattle.certificates.specs.declared.error.Refusal.{Refusal}
+use Rattle.certificates.specs.declared.error.Refusal.TheVariants as refusal
+use Rattle.certificates.proofs.ErrorLaws.{code-some}
+use Rattle.handlers.proofs.HandlerLaws.{answer-no, answer-yes}
 use Rattle.certificates.specs.Config.{quorum_from, quorum_of}
 use Rattle.certificates.specs.Start.{member_count, own_place, setup_at, loaded_stakes}
 use Rattle.certificates.proofs.ConfigLaws.{quorum-total}
 use Rattle.certificates.proofs.StartLaws.{started as start_of_lem, length-loaded}
-use Rattle.certificates.specs.Error.{bad_record, bad_setup, no_room, not_started, started_again}
+use Rattle.certificates.specs.Error.{code, number, bad_record, bad_setup, no_room, not_started, started_again}
 use Rattle.certificates.specs.declared.numbers.Place.{Place}
 use Rattle.certificates.specs.declared.numbers.Stake.{Stake}
 use Rattle.trace.specs.declared.events.Kind.{Kind}
@@ -40,24 +45,22 @@ use Rattle.handlers.proofs.ProposalTheorems.{proposal-goes-on, taken-sound}
 use Rattle.handlers.specs.Votes.{handled_vote, voting, voting_most}
 use Rattle.handlers.specs.Timeouts.{handled_timeout, handled_tc, handled_tick}
 use Rattle.handlers.specs.Proposals.{proposal_of, Proposes}
-use Rattle.handlers.specs.declared.proposals.Proposed.{Proposed}
 use Rattle.replica.specs.declared.started.Seat.{Seat}
 use Rattle.replica.specs.declared.stages.Handed.{Handed}
 use Rattle.replica.specs.declared.stages.Begun.{Begun}
-use Rattle.replica.specs.declared.stages.Booting.{Booting}
-use Rattle.replica.specs.declared.stages.Booting.TheVariants.{NoRoom, BadSetup, Good}
+use Rattle.replica.specs.declared.stages.Does.{Does}
 use Rattle.replica.specs.declared.stages.Stepped.{Stepped}
 use Rattle.replica.specs.Started.{members_of, sized, started_of, roomy}
 use Rattle.replica.specs.Step.{new_core, new_seat, new_stakes, announced, announced_most}
-use Rattle.replica.specs.Stages.{Stage, ended, alone, handled_in, ready_in, Filled, Boots, booted_by, booting_of, started_in, is_start, staged_of, finished_of, early_begun, ran_handed, handed_begun, first_most, Handles, Ongoing, Begins, Finishes}
+use Rattle.replica.specs.Stages.{Stage, ended, alone, handled_in, ready_in, Filled, Boots, booted_by, booting_of, started_in, is_start, staged_of, finished_of, is_block, early_begun, ran_handed, handed_begun, first_most, Handles, Ongoing, Begins, Finishes}
 use Rattle.replica.proofs.StartedLaws.{started-ready, sized-has, members-part}
 use Rattle.replica.proofs.StepLaws.{roomy-has}
 
 -- ---- a refusal before anything is done
 
 module _ (seat : Seat) (stakes : List ℕ) (core : Core) (votes timeouts r out : List ℕ) where
-  pub begins-early : (room : Bool) (n : ℕ) {b : Begun} → b ≡ early_begun seat core n
-      → Begins (ended seat stakes (refused n (whole core votes timeouts))) room r out b stakes votes timeouts out
+  pub begins-early : (room : Bool) (n : Refusal) {b : Begun} → b ≡ early_begun seat core n
+      → Begins (ended seat stakes (refused (code n) (whole core votes timeouts))) room r out b stakes votes timeouts out
   begins-early room n e =
       rw e
       record {
@@ -67,17 +70,17 @@ module _ (seat : Seat) (stakes : List ℕ) (core : Core) (votes timeouts r out :
         answer = refl;
         did = did-quiet first_most core votes timeouts out 0;
         fits = omega arith;
-        going = λ (h : ◌≡◌ {A = ℕ} 0 2). absurd (omega arith);
+        going = λ (h : Does.Nothing ≡ Does.Block). absurd (let z : ◌≡◌ {A = ℕ} 0 1 = cc in omega arith);
       }
 
   module _ (room : Bool) where
     -- ---- the order of refusals
 
     module _ {f : Option Kind} (e : f ≡ form_of r) where
-      pub begin-bad : {b : Begun} → f ≡ None → b ≡ early_begun seat core bad_record
+      pub begin-bad : {b : Begun} → f ≡ None → b ≡ early_begun seat core refusal.BadRecord
           → Begins (staged_of seat stakes (whole core votes timeouts) room r) room r out b stakes votes timeouts out
       unfolding staged_of
-      begin-bad h i = rw (← e, h) (begins-early room bad_record i)
+      begin-bad h i = rw (← e, h) (begins-early room refusal.BadRecord i)
 
       module _ {k : Kind} (good : f ≡ Some k) {st : Option Stake} (s : st ≡ started_of seat stakes votes timeouts) {first : Bool} (g : first ≡ is_start k) where
         pub begin-start : {b : Begun} {stakes' votes' timeouts' out' : List ℕ} → st ≡ None → first ≡ true
@@ -86,15 +89,15 @@ module _ (seat : Seat) (stakes : List ℕ) (core : Core) (votes timeouts r out :
         unfolding staged_of
         begin-start h i p = rw (← e, good, ← s, h, ← g, i) p
 
-        pub begin-not-started : {b : Begun} → st ≡ None → first ≡ false → b ≡ early_begun seat core not_started
+        pub begin-not-started : {b : Begun} → st ≡ None → first ≡ false → b ≡ early_begun seat core refusal.NotStarted
             → Begins (staged_of seat stakes (whole core votes timeouts) room r) room r out b stakes votes timeouts out
         unfolding staged_of
-        begin-not-started h i p = rw (← e, good, ← s, h, ← g, i) (begins-early room not_started p)
+        begin-not-started h i p = rw (← e, good, ← s, h, ← g, i) (begins-early room refusal.NotStarted p)
 
-        pub begin-again : {t : Stake} {b : Begun} → st ≡ Some t → first ≡ true → b ≡ early_begun seat core started_again
+        pub begin-again : {t : Stake} {b : Begun} → st ≡ Some t → first ≡ true → b ≡ early_begun seat core refusal.StartedAgain
             → Begins (staged_of seat stakes (whole core votes timeouts) room r) room r out b stakes votes timeouts out
         unfolding staged_of
-        begin-again h i p = rw (← e, good, ← s, h, ← g, i) (begins-early room started_again p)
+        begin-again h i p = rw (← e, good, ← s, h, ← g, i) (begins-early room refusal.StartedAgain p)
 
         pub begin-ready : {t : Stake} {b : Begun} {votes' timeouts' out' : List ℕ} → st ≡ Some t → first ≡ false
             → Begins (ready_in seat stakes (whole core votes timeouts) room r k) room r out b stakes votes' timeouts' out'
@@ -109,19 +112,20 @@ module _ (seat : Seat) (stakes : List ℕ) (core : Core) (votes timeouts r out :
     -- ---- an event of a started replica
 
     module _ (k : Kind) where
-      pub ready-no-room : {b : Begun} → t ≡ false → b ≡ early_begun seat core no_room
+      pub ready-no-room : {b : Begun} → t ≡ false → b ≡ early_begun seat core refusal.NoRoom
           → Begins (ready_in seat stakes (whole core votes timeouts) roomful r k) roomful r out b stakes votes timeouts out
       unfolding ready_in
-      ready-no-room h i = rw (← e, h) (begins-early false no_room i)
+      ready-no-room h i = rw (← e, h) (begins-early false refusal.NoRoom i)
 
-      module _ {limit : ℕ} (l : limit ≡ limit_of r k) where
-        pub ready-limited : {b : Begun} → t ≡ true → (limit ≡ 0 → ⊥) → b ≡ early_begun seat core limit
+      module _ {limit : std.Result Unit Refusal} (l : number limit ≡ limit_of r k) where
+        pub ready-limited : {b : Begun} {n : Refusal} → t ≡ true → limit ≡ Err n → b ≡ early_begun seat core n
             → Begins (ready_in seat stakes (whole core votes timeouts) roomful r k) roomful r out b stakes votes timeouts out
         unfolding ready_in
-        ready-limited h n i = rw (← e, h, ← l, ne_eqb _ _ n) (begins-early true limit i)
+        ready-limited {n = n} h i j =
+            rw (← e, h, ← answer-no l i, ne_eqb (code n) 0 (code-some n)) (begins-early true n j)
 
         module _ {total need : Stake} (s : started_of seat stakes votes timeouts ≡ Some total) (q : need.0 ≡ quorum_from total.0) where
-          pub ready-handled : {m : List ℕ} {b : Begun} {x : Handed} {votes' timeouts' out' : List ℕ} → t ≡ true → limit ≡ 0 → m ≡ members_of seat stakes
+          pub ready-handled : {m : List ℕ} {b : Begun} {x : Handed} {votes' timeouts' out' : List ℕ} {u : Unit} → t ≡ true → limit ≡ Ok u → m ≡ members_of seat stakes
               → Handles (handled_in m seat.own.0 (whole core votes timeouts) r k) m seat.own.0 r out x votes' timeouts' out'
               → b ≡ handed_begun seat need x
               → Begins (ready_in seat stakes (whole core votes timeouts) roomful r k) roomful r out b stakes votes' timeouts' out'
@@ -129,7 +133,7 @@ module _ (seat : Seat) (stakes : List ℕ) (core : Core) (votes timeouts r out :
           ready-handled {x = x} h n w p i =
               let y = started-ready seat stakes votes timeouts total s in
               let z = rw w at p in
-              rw (← e, h, ← l, n, i)
+              rw (← e, h, answer-yes l n, i)
               record {
                 does = z.does;
                 sits = refl;
@@ -137,32 +141,33 @@ module _ (seat : Seat) (stakes : List ℕ) (core : Core) (votes timeouts r out :
                 answer = z.answer;
                 did = z.did;
                 fits = omega (arith, z.did.bytes.room, roomy-has slots (length out) (sym e ∙ h));
-                going = λ (g : x.does ≡ 2). (refl, record { few = y.count; need = quorum-total (members_of seat stakes) y.total q; going = z.going g });
+                going = λ (g : x.does ≡ Does.Block). (refl, record { few = y.count; need = quorum-total (members_of seat stakes) y.total q; going = z.going g });
               }
 
           -- what `handle` asks for
-          pub handle-needs : {m : List ℕ} → t ≡ true → limit ≡ 0 → m ≡ members_of seat stakes
+          pub handle-needs : {m : List ℕ} {u : Unit} → t ≡ true → limit ≡ Ok u → m ≡ members_of seat stakes
               → Sound m seat.own.0 votes timeouts × (need.0 ≡ quorum_of m) × (limit_of r k ≡ 0) × (first_most ≤ length out)
           handle-needs h n w =
               let y = started-ready seat stakes votes timeouts total s in
-              (rw w y.sound, rw w (quorum-total (members_of seat stakes) y.total q), sym l ∙ n, omega (arith, roomy-has slots (length out) (sym e ∙ h)))
+              (rw w y.sound, rw w (quorum-total (members_of seat stakes) y.total q), answer-yes l n, omega (arith, roomy-has slots (length out) (sym e ∙ h)))
 
 -- ---- the handlers, by the kind of the record
 
 module _ (m : List ℕ) (own : ℕ) (core : Core) (votes timeouts r out : List ℕ) where
-  handed-early : (n : ℕ) → Handles (alone (refused n (whole core votes timeouts))) m own r out (record { answer = n; core = core; at = 0; does = 0 }) votes timeouts out
+  handed-early : (n : Refusal)
+      → Handles (alone (refused (code n) (whole core votes timeouts))) m own r out (record { answer = Err n; core = core; at = 0; does = Does.Nothing }) votes timeouts out
   handed-early n =
-      record { does = refl; answer = refl; did = did-quiet first_most core votes timeouts out 0; going = λ (h : ◌≡◌ {A = ℕ} 0 2). absurd (omega arith) }
+      record { does = refl; answer = refl; did = did-quiet first_most core votes timeouts out 0; going = λ (h : Does.Nothing ≡ Does.Block). absurd (let z : ◌≡◌ {A = ℕ} 0 1 = cc in omega arith) }
 
   pub handle-start : {k : Kind} → k ≡ Kind.Start
-      → Handles (handled_in m own (whole core votes timeouts) r k) m own r out (record { answer = 34; core = core; at = 0; does = 0 }) votes timeouts out
-  handle-start e = rw e (handed-early started_again)
+      → Handles (handled_in m own (whole core votes timeouts) r k) m own r out (record { answer = Err refusal.StartedAgain; core = core; at = 0; does = Does.Nothing }) votes timeouts out
+  handle-start e = rw e (handed-early refusal.StartedAgain)
 
   -- what a handler reached that ends before the table
   handed-ran : {n : ℕ} {o : Outcome} {x : Ran} {h : Handed} {votes' timeouts' out' : List ℕ} → Reached n o out 0 x votes' timeouts' out' → n ≤ first_most → h ≡ ran_handed x
       → Handles (alone o) m own r out h votes' timeouts' out'
   handed-ran p l i =
-      rw i (record { does = refl; answer = p.answer; did = did_more p.did l; going = λ (h : ◌≡◌ {A = ℕ} 0 2). absurd (omega arith) })
+      rw i (record { does = refl; answer = p.answer; did = did_more p.did l; going = λ (h : Does.Nothing ≡ Does.Block). absurd (let z : ◌≡◌ {A = ℕ} 0 1 = cc in omega arith) })
 
   module _ {k : Kind} {x : Ran} {h : Handed} {votes' timeouts' out' : List ℕ} (i : h ≡ ran_handed x) where
     pub handle-vote : {v : Vote} → k ≡ Kind.Vote → v ≡ vote_of r → Reached certify_most (handled_vote m own (whole core votes timeouts) v) out 0 x votes' timeouts' out'
@@ -188,43 +193,50 @@ module _ (m : List ℕ) (own : ℕ) (core : Core) (votes timeouts r out : List �
 
 -- ---- the last part
 
-module _ (m : List ℕ) (own : ℕ) (core : Core) (votes timeouts : List ℕ) (b : Block) (first : ℕ) (seat : Seat) (does answer last : ℕ) where
-  pub finish-votes : {at : ℕ} {out votes' timeouts' out' : List ℕ} {x : Stepped} → does ≡ 2 → answer ≡ 0
+not-block : (d : Does) → (d ≡ Does.Block → ⊥) → is_block d ≡ false
+not-block Does.Nothing n = refl
+not-block Does.Clear n = refl
+not-block Does.Block n = absurd (n refl)
+
+module _ (m : List ℕ) (own : ℕ) (core : Core) (votes timeouts : List ℕ) (b : Block) (first : ℕ) (seat : Seat) (does : Does) (answer : std.Result Unit Refusal) (last : ℕ) where
+  pub finish-votes : {at : ℕ} {out votes' timeouts' out' : List ℕ} {x : Stepped} {u : Unit} → does ≡ Does.Block → answer ≡ Ok u
       → Finishes (voting m own b (whole (with_committed core last) votes timeouts)) voting_most seat out at x votes' timeouts' out'
-      → Finishes (finished_of m own (whole core votes timeouts) does first answer last b) voting_most seat out at x votes' timeouts' out'
+      → Finishes (finished_of m own (whole core votes timeouts) does first (number answer) last b) voting_most seat out at x votes' timeouts' out'
   unfolding finished_of
   finish-votes e f p = rw (e, f) p
 
-  pub finish-refused : {at : ℕ} {out : List ℕ} → does ≡ 2 → (answer ≡ 0 → ⊥)
-      → Finishes (finished_of m own (whole core votes timeouts) does first answer last b) voting_most seat out at
-      (record { answer = answer; seat = seat; core = with_committed core last; written = at }) votes timeouts out
+  pub finish-refused : {at : ℕ} {out : List ℕ} {r : Refusal} → does ≡ Does.Block → answer ≡ Err r
+      → Finishes (finished_of m own (whole core votes timeouts) does first (number answer) last b) voting_most seat out at
+      (record { answer = Err r; seat = seat; core = with_committed core last; written = at }) votes timeouts out
   unfolding finished_of
-  finish-refused {at} {out} e f =
-      rw (e, ne_eqb _ _ f) (record { answer = refl; sits = refl; did = did-quiet voting_most (with_committed core last) votes timeouts out at })
+  finish-refused {at} {out} {r} e f =
+      rw (e, f, ne_eqb (code r) 0 (code-some r)) (record { answer = refl; sits = refl; did = did-quiet voting_most (with_committed core last) votes timeouts out at })
 
-  pub finish-ended : {at : ℕ} {out : List ℕ} → (does ≡ 2 → ⊥)
-      → Finishes (finished_of m own (whole core votes timeouts) does first answer last b) voting_most seat out at
-      (record { answer = first; seat = seat; core = core; written = at }) votes timeouts out
-  unfolding finished_of
-  finish-ended {at} {out} e = rw (ne_eqb _ _ e) (record { answer = refl; sits = refl; did = did-quiet voting_most core votes timeouts out at })
+pub finish-ended : (m : List ℕ) (own : ℕ) (core : Core) (votes timeouts : List ℕ) (b : Block) (first : std.Result Unit Refusal) (seat : Seat) (does : Does) (answer last : ℕ) {at : ℕ} {out : List ℕ}
+    → (does ≡ Does.Block → ⊥)
+    → Finishes (finished_of m own (whole core votes timeouts) does (number first) answer last b) voting_most seat out at
+    (record { answer = first; seat = seat; core = core; written = at }) votes timeouts out
+unfolding finished_of
+finish-ended m own core votes timeouts b first seat does answer last {at} {out} e =
+    rw (not-block does e) (record { answer = refl; sits = refl; did = did-quiet voting_most core votes timeouts out at })
 
 -- ---- a proposal
 
 module _ (m : List ℕ) (own : ℕ) (core : Core) (votes timeouts r out : List ℕ) {b : Block} {payload : ℕ} (f : b ≡ block_of r) (g : payload ≡ payload_of r)
-    {p : Proposed} {votes' timeouts' out' : List ℕ} (x : Proposes 8 (proposal_of m (whole core votes timeouts) b r payload) out 0 p votes' timeouts' out') where
-  pub propose-ends : p.goes_on ≡ false
-      → Handles (handled_in m own (whole core votes timeouts) r Kind.Propose) m own r out (record { answer = p.answer; core = p.core; at = p.at; does = 0 }) votes' timeouts' out'
+    {p : Ran} {votes' timeouts' out' : List ℕ} (x : Proposes 8 (proposal_of m (whole core votes timeouts) b r payload) out 0 p votes' timeouts' out') where
+  pub propose-ends : is_ok p.answer ≡ false
+      → Handles (handled_in m own (whole core votes timeouts) r Kind.Propose) m own r out (record { answer = p.answer; core = p.core; at = p.at; does = Does.Nothing }) votes' timeouts' out'
   propose-ends h =
       let y = rw (f, g) at x in
       record {
         does = rw (← y.goes, h);
         answer = y.answer;
         did = did_more y.did (omega arith);
-        going = λ (z : ◌≡◌ {A = ℕ} 0 2). absurd (omega arith);
+        going = λ (z : Does.Nothing ≡ Does.Block). absurd (let y : ◌≡◌ {A = ℕ} 0 1 = cc in omega arith);
       }
 
-  pub propose-goes : p.goes_on ≡ true → Sound m own votes timeouts → limit_of r Kind.Propose ≡ 0
-      → Handles (handled_in m own (whole core votes timeouts) r Kind.Propose) m own r out (record { answer = p.answer; core = p.core; at = p.at; does = 2 }) votes' timeouts' out'
+  pub propose-goes : is_ok p.answer ≡ true → Sound m own votes timeouts → limit_of r Kind.Propose ≡ 0
+      → Handles (handled_in m own (whole core votes timeouts) r Kind.Propose) m own r out (record { answer = p.answer; core = p.core; at = p.at; does = Does.Block }) votes' timeouts' out'
   propose-goes h s l =
       let y = rw (f, g) at x in
       record {
@@ -232,7 +244,7 @@ module _ (m : List ℕ) (own : ℕ) (core : Core) (votes timeouts r out : List �
         answer = y.answer;
         did = did_more y.did (omega arith);
         going =
-            λ (z : ◌≡◌ {A = ℕ} 2 2).
+            λ (z : Does.Block ≡ Does.Block).
             record {
               sound =
                   taken-sound core (block_of r) _ s
@@ -247,7 +259,7 @@ module _ (m : List ℕ) (own : ℕ) (core : Core) (votes timeouts r out : List �
 -- a block that comes back
 module _ (m : List ℕ) (own : ℕ) (core : Core) (votes timeouts r out : List ℕ) where
   pub handle-loopback : {k : Kind} → k ≡ Kind.Loopback → Sound m own votes timeouts → limit_of r k ≡ 0
-      → Handles (handled_in m own (whole core votes timeouts) r k) m own r out (record { answer = 0; core = core; at = 0; does = 2 }) votes timeouts out
+      → Handles (handled_in m own (whole core votes timeouts) r k) m own r out (record { answer = Ok tt; core = core; at = 0; does = Does.Block }) votes timeouts out
   handle-loopback e s l =
       let n = loopback-limit r (rw e at l) in
       rw e
@@ -256,7 +268,7 @@ module _ (m : List ℕ) (own : ℕ) (core : Core) (votes timeouts r out : List �
         answer = refl;
         did = did-quiet first_most core votes timeouts out 0;
         going =
-            λ (z : ◌≡◌ {A = ℕ} 2 2).
+            λ (z : Does.Block ≡ Does.Block).
             record { sound = s; round = block-round-le r n; qc_round = block-qc-round-le r n; tc_round = block-tc-round-le r n; short = omega arith };
       }
 
@@ -284,7 +296,7 @@ module _ (seat : Seat) (stakes : List ℕ) (core : Core) (votes timeouts r out :
       → Filled r stakes votes timeouts stakes' votes' timeouts' → fresh ≡ new_core
       → Wrote announced_most (announced (take (taken.count - 0) (drop 0 stakes')) taken.own.0 fresh) out 0 out' at
       → Begins (booted_by seat stakes (whole core votes timeouts) r (Some total)) true r out
-      (record { seat = taken; answer = 0; core = fresh; at = at; does = 1; need = record { 0 = 0 } }) stakes' votes' timeouts' out'
+      (record { seat = taken; answer = Ok tt; core = fresh; at = at; does = Does.Clear; need = record { 0 = 0 } }) stakes' votes' timeouts' out'
   unfolding new_stakes
   boots {stakes' = stakes'} {taken = taken} b e f n w =
       let k = sized-has (length stakes) (length votes) (length timeouts) b.sizes in
@@ -297,37 +309,15 @@ module _ (seat : Seat) (stakes : List ℕ) (core : Core) (votes timeouts r out :
         answer = refl;
         did = record { state = rw (n, f.no-votes, f.no-timeouts, k.long, k.wide); bytes = wrote-more (rw e at (rw (same, n) at w)) (omega arith) };
         fits = omega (arith, w.room, b.room);
-        going = λ (h : ◌≡◌ {A = ℕ} 1 2). absurd (omega arith);
+        going = λ (h : Does.Clear ≡ Does.Block). absurd (let z : ◌≡◌ {A = ℕ} 0 1 = cc in omega arith);
       }
-
--- ---- what a record of START meets
-
-module _ (slots room stakes votes timeouts : ℕ) (r : List ℕ) {t : Bool} (e : t ≡ roomy slots room) where
-  pub booting-roomless : t ≡ false → NoRoom ≡ booting_of (roomy slots room) (sized stakes votes timeouts) (setup_at (drop 2 r))
-  unfolding booting_of
-  booting-roomless h = rw (← e, h)
-
-  module _ (y : t ≡ true) {size : Bool} (f : size ≡ sized stakes votes timeouts) where
-    pub booting-sizeless : size ≡ false → NoRoom ≡ booting_of (roomy slots room) (sized stakes votes timeouts) (setup_at (drop 2 r))
-    unfolding booting_of
-    booting-sizeless h = rw (← e, y, ← f, h)
-
-    module _ (z : size ≡ true) {body : List ℕ} (c : body ≡ drop 2 r) {st : Option Stake} (d : st ≡ setup_at body) where
-      pub booting-bad : st ≡ None → BadSetup ≡ booting_of (roomy slots room) (sized stakes votes timeouts) (setup_at (drop 2 r))
-      unfolding booting_of
-      booting-bad h = rw (← e, y, ← f, z, ← c, ← d, h)
-
-      pub booting-good : {total : Stake} → st ≡ Some total → Good total ≡ booting_of (roomy slots room) (sized stakes votes timeouts) (setup_at (drop 2 r))
-      unfolding booting_of
-      booting-good h = rw (← e, y, ← f, z, ← c, ← d, h)
 
 -- ---- START
 
 module _ (seat : Seat) (stakes : List ℕ) (core : Core) (votes timeouts r out : List ℕ) where
-  abbrev booted_as : Booting → Stage
-  booted_as NoRoom = ended seat stakes (refused no_room (whole core votes timeouts))
-  booted_as BadSetup = ended seat stakes (refused bad_setup (whole core votes timeouts))
-  booted_as (Good t) = booted_by seat stakes (whole core votes timeouts) r (Some t)
+  abbrev booted_as : std.Result Stake Refusal → Stage
+  booted_as (Ok t) = booted_by seat stakes (whole core votes timeouts) r (Some t)
+  booted_as (Err n) = ended seat stakes (refused (code n) (whole core votes timeouts))
 
   booted-as : (room size : Bool) (st : Option Stake)
       → cond room (cond size (booted_by seat stakes (whole core votes timeouts) r st) (ended seat stakes (refused no_room (whole core votes timeouts)))) (ended seat stakes (refused no_room (whole core votes timeouts)))
@@ -338,36 +328,32 @@ module _ (seat : Seat) (stakes : List ℕ) (core : Core) (votes timeouts r out :
   booted-as true true None = refl
   booted-as true true (Some t) = refl
 
-  module _ (slots : ℕ) {k : Booting} (e : k ≡ booting_of (roomy slots (length out)) (sized (length stakes) (length votes) (length timeouts)) (setup_at (drop 2 r))) where
+  module _ (slots : ℕ) {k : std.Result Stake Refusal} (e : k ≡ booting_of (roomy slots (length out)) (sized (length stakes) (length votes) (length timeouts)) (setup_at (drop 2 r))) where
     started-as : started_in seat stakes (whole core votes timeouts) (roomy slots (length out)) r ≡ booted_as k
     unfolding started_in
     started-as = booted-as (roomy slots (length out)) (sized (length stakes) (length votes) (length timeouts)) (setup_at (drop 2 r)) ∙ ap booted_as (sym e)
 
-    pub start-no-room : {b : Begun} → k ≡ NoRoom → b ≡ early_begun seat core no_room
+    pub start-refused : {b : Begun} {n : Refusal} → k ≡ Err n → b ≡ early_begun seat core n
         → Begins (started_in seat stakes (whole core votes timeouts) (roomy slots (length out)) r) (roomy slots (length out)) r out b stakes votes timeouts out
-    start-no-room h i = rw (started-as, h) (begins-early seat stakes core votes timeouts r out (roomy slots (length out)) no_room i)
-
-    pub start-bad-setup : {b : Begun} → k ≡ BadSetup → b ≡ early_begun seat core bad_setup
-        → Begins (started_in seat stakes (whole core votes timeouts) (roomy slots (length out)) r) (roomy slots (length out)) r out b stakes votes timeouts out
-    start-bad-setup h i = rw (started-as, h) (begins-early seat stakes core votes timeouts r out (roomy slots (length out)) bad_setup i)
+    start-refused {n = n} h i = rw (started-as, h) (begins-early seat stakes core votes timeouts r out (roomy slots (length out)) n i)
 
     -- what `boot` asks for
-    booted-has : (room size : Bool) (st : Option Stake) (t : Stake) → booting_of room size st ≡ Good t → (room ≡ true) × (size ≡ true) × (st ≡ Some t)
+    booted-has : (room size : Bool) (st : Option Stake) (t : Stake) → booting_of room size st ≡ Ok t → (room ≡ true) × (size ≡ true) × (st ≡ Some t)
     unfolding booting_of
     booted-has true true (Some u) t h = (refl, refl, ap Some (let z : u ≡ t = cc in z))
     booted-has true true None t h = absurd (let z : ◌≡◌ {A = ℕ} 0 1 = cc in omega arith)
     booted-has true false st t h = absurd (let z : ◌≡◌ {A = ℕ} 0 1 = cc in omega arith)
     booted-has false size st t h = absurd (let z : ◌≡◌ {A = ℕ} 0 1 = cc in omega arith)
 
-    pub start_has : {t : Stake} → k ≡ Good t → (roomy slots (length out) ≡ true) × Boots r (length stakes) (length votes) (length timeouts) (length out) t
+    pub start_has : {t : Stake} → k ≡ Ok t → (roomy slots (length out) ≡ true) × Boots r (length stakes) (length votes) (length timeouts) (length out) t
     start_has {t} h =
         let p = booted-has (roomy slots (length out)) (sized (length stakes) (length votes) (length timeouts)) (setup_at (drop 2 r)) t (sym e ∙ h) in
         (p.0, record { sizes = p.1; setup = p.2; room = omega (arith, roomy-has slots (length out) p.0) })
 
-    pub boot-needs : {t : Stake} → k ≡ Good t → Boots r (length stakes) (length votes) (length timeouts) (length out) t
+    pub boot-needs : {t : Stake} → k ≡ Ok t → Boots r (length stakes) (length votes) (length timeouts) (length out) t
     boot-needs h = (start_has h).1
 
-    pub start-boots : {t : Stake} {b : Begun} {stakes' votes' timeouts' out' : List ℕ} → k ≡ Good t
+    pub start-boots : {t : Stake} {b : Begun} {stakes' votes' timeouts' out' : List ℕ} → k ≡ Ok t
         → Begins (booted_by seat stakes (whole core votes timeouts) r (Some t)) true r out b stakes' votes' timeouts' out'
         → Begins (started_in seat stakes (whole core votes timeouts) (roomy slots (length out)) r) (roomy slots (length out)) r out b stakes' votes' timeouts' out'
     start-boots h p = rw (started-as, h, (start_has h).0) p

@@ -24,6 +24,7 @@ use Rattle.synchronizer.specs.Table.{cleared}
 use Rattle.synchronizer.specs.Settle.{Settlement}
 use Rattle.synchronizer.proofs.SettleLaws.{settled-nothing, settled-clear}
 use Rattle.replica.specs.declared.started.Seat.{Seat}
+use Rattle.replica.specs.declared.stages.Does.{Does}
 use Rattle.replica.specs.Started.{members_of, roomy}
 use Rattle.replica.specs.Blocks.{settled_for, settled_step, after_settled, processed, processed_table, going_on, going_on_table}
 use Rattle.replica.specs.Step.{World, Result, refused_in, in_world, new_seat, new_stakes, begun, begun_by, started, sized_in, on_start, on_other, on_kind, handled, stepped}
@@ -53,11 +54,11 @@ together-ended seat stakes o t k =
     ap (concluded (ended seat stakes o) k) (settled-nothing t (stage_work (ended seat stakes o) k) refl) ∙ nothing-more seat stakes o t
 
 pub together-cleared : (seat : Seat) (stakes : List ℕ) (o : Outcome) (t : List Slot) (k : Block)
-    → together (record { does = 1; seat = seat; stakes = stakes; out = o }) t k ≡ left seat stakes (cleared t) o
+    → together (record { does = Does.Clear; seat = seat; stakes = stakes; out = o }) t k ≡ left seat stakes (cleared t) o
 unfolding together stage_work finished_of
 together-cleared seat stakes o t k =
-    ap (concluded (record { does = 1; seat = seat; stakes = stakes; out = o }) k)
-    (settled-clear t (stage_work (record { does = 1; seat = seat; stakes = stakes; out = o }) k) refl)
+    ap (concluded (record { does = Does.Clear; seat = seat; stakes = stakes; out = o }) k)
+    (settled-clear t (stage_work (record { does = Does.Clear; seat = seat; stakes = stakes; out = o }) k) refl)
     ∙ nothing-more seat stakes o (cleared t)
 
 -- the vote follows, or what the table answered stays
@@ -66,13 +67,13 @@ module _ (seat : Seat) (stakes : List ℕ) (o : Outcome) (k : Block) where
   voted s p = voting (members_of seat stakes) seat.own.0 k (with_core s (with_committed s.core p.last))
 
   abbrev kept : Settlement → Bool → Result
-  kept p true = followed (record { does = 2; seat = seat; stakes = stakes; out = o }) p (voted o.left.state p)
+  kept p true = followed (record { does = Does.Block; seat = seat; stakes = stakes; out = o }) p (voted o.left.state p)
   kept p false =
-      followed (record { does = 2; seat = seat; stakes = stakes; out = o }) p
+      followed (record { does = Does.Block; seat = seat; stakes = stakes; out = o }) p
       (refused p.answer (with_core o.left.state (with_committed o.left.state.core p.last)))
 
   either_way : (p : Settlement) (zero : Bool)
-      → followed (record { does = 2; seat = seat; stakes = stakes; out = o }) p
+      → followed (record { does = Does.Block; seat = seat; stakes = stakes; out = o }) p
       (cond zero (voted o.left.state p) (refused p.answer (with_core o.left.state (with_committed o.left.state.core p.last))))
       ≡ left seat stakes p.table
       (after o.left (λ (s : State). cond zero (after (settled_step s p) (voting (members_of seat stakes) seat.own.0 k)) (done p.answer (settled_step s p))))
@@ -85,7 +86,7 @@ module _ (seat : Seat) (stakes : List ℕ) (o : Outcome) (k : Block) where
       }) (append-nil p.outs)
 
   pub together-block : (t : List Slot)
-      → together (record { does = 2; seat = seat; stakes = stakes; out = o }) t k
+      → together (record { does = Does.Block; seat = seat; stakes = stakes; out = o }) t k
       ≡ left seat stakes (processed_table t k o.left.state) (after o.left (processed (members_of seat stakes) seat.own.0 t k))
   unfolding together stage_work finished_of processed processed_table after_settled settled_for
   together-block t = either_way (settled_for o.left.state t k) (eqb (settled_for o.left.state t k).answer 0)

@@ -8,6 +8,7 @@ use Rattle.std.specs.Prelude.{ℕ, true, cond, List, eqb}
 use Rattle.certificates.specs.declared.numbers.Round.{Round}
 use Rattle.trace.specs.declared.events.Block.{Block}
 use Rattle.synchronizer.specs.declared.table.Slot.{Slot}
+use Rattle.synchronizer.specs.declared.settle.Task.{Task}
 use Rattle.synchronizer.specs.declared.settle.Work.{Work}
 use Rattle.synchronizer.specs.Settle.{Settlement, settled_of}
 use Rattle.moves.specs.State.{State, with_core, with_committed}
@@ -21,14 +22,7 @@ slot_for b = record { used = true; digest = b.digest; round = b.round; parent = 
 
 -- what the table is asked for
 abbrev pub work_for : Block → Round → ℕ → Work
-work_for b last at =
-    record {
-      does = 2;
-      block = slot_for b;
-      author = b.author;
-      last = last;
-      at = at;
-    }
+work_for b last at = record { task = Task.Store (slot_for b) b.author; last = last; at = at }
 
 -- parents, the store, CLEAN PROPOSER, CLEAN MEMPOOL and the commit
 unfoldable pub settled_for : State → List Slot → Block → Settlement

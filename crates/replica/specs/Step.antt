@@ -10,7 +10,7 @@ use Rattle.std.specs.Prelude.{ℕ, ◌+◌, Bool, cond, List, [], ◌∷◌, ◌
 use Rattle.certificates.specs.Numbers.{zero_hash}
 use Rattle.certificates.specs.Config.{members_max}
 use Rattle.certificates.specs.Start.{member_count, own_place, setup_at, loaded_stakes}
-use Rattle.certificates.specs.Error.{bad_record, bad_setup, no_room, not_started, started_again}
+use Rattle.certificates.specs.Error.{number, bad_record, bad_setup, no_room, not_started, started_again}
 use Rattle.certificates.specs.declared.numbers.Stake.{Stake}
 use Rattle.trace.specs.declared.events.Kind.{Kind}
 use Rattle.trace.specs.declared.events.Block.{Block}
@@ -176,4 +176,4 @@ world seat stakes core votes timeouts table = record { seat = seat; stakes = sta
 
 abbrev pub left_by : Stepped → List ℕ → List ℕ → List ℕ → List Slot → List ℕ → Left
 left_by r stakes votes timeouts table out =
-    record { answer = r.answer; world = world r.seat stakes r.core votes timeouts table; written = r.written; out = out }
+    record { answer = number r.answer; world = world r.seat stakes r.core votes timeouts table; written = r.written; out = out }

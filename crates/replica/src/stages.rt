@@ -1,6 +1,7 @@
 // An event in three parts: what needs no block, then the table, then the vote.
 ghost use Rattle.std.specs.Prelude.{◌≡◌, ◌+◌, ◌≤◌, true, length, drop};
 ghost use Rattle.certificates.specs.Config.{quorum_of};
+ghost use Rattle.certificates.specs.Error.{number};
 ghost use Rattle.certificates.specs.Start.{setup_at};
 ghost use Rattle.trace.specs.declared.events.Kind.TheVariants.{Propose};
 ghost use Rattle.trace.specs.Limits.{limit_of};
@@ -12,12 +13,12 @@ ghost use Rattle.handlers.specs.Votes.{voting, voting_most};
 ghost use Rattle.replica.specs.Started.{members_of, sized, started_of, roomy};
 ghost use Rattle.replica.specs.Blocks.{slot_for};
 ghost use Rattle.replica.specs.Step.{new_core, new_seat, announced, announced_most};
-ghost use Rattle.replica.specs.Stages.{handled_in, ready_in, Filled, Boots, booted_by, booting_of, started_in, is_start, staged_of, finished_of, no_slot, work_at, early_begun, ran_handed, handed_begun, first_most, Handles, Begins, Ongoing, Finishable, Finishes};
+ghost use Rattle.replica.specs.Stages.{handled_in, ready_in, Filled, Boots, booted_by, booting_of, started_in, is_start, staged_of, finished_of, work_at, early_begun, ran_handed, handed_begun, first_most, Handles, Begins, Ongoing, Finishable, Finishes};
 
 use crate::started::{Seat, is_roomy, is_sized, total_of};
 use aggregator::tallies::clear;
 use certificates::config::{check_setup, load, member_count, own_place, quorum_threshold};
-use certificates::error::{BAD_RECORD, BAD_SETUP, DONE, NO_ROOM, NOT_STARTED, STARTED_AGAIN};
+use certificates::error::{Answer, Refusal};
 use certificates::messages::QC;
 use certificates::num::u64_at;
 use certificates::numbers::{Hash, Place, Round, Signers, Stake};
@@ -27,30 +28,37 @@ use handlers::votes::{handle_vote, make_vote};
 use moves::rounds::generate_proposal;
 use moves::state::{Core, Ran};
 use outputs::records::put_timer_reset;
-use synchronizer::settle::{Settled, Work};
+use synchronizer::settle::{Settled, Task, Work};
 use synchronizer::table::Slot;
 use trace::events::{
     Block, Kind, block_of, body_of, form_of, limit_of, payload_of, timeout_of, vote_of,
 };
 
-// What a handler leaves, and what is to be done with the table: 0 nothing, 2 the record's block.
-#[derive(Clone, Copy)]
-pub struct Handed {
-    pub answer: u16,
-    pub core: Core,
-    pub at: usize,
-    pub does: u8,
+// What is to be done with the table. `Block` is the record's block.
+#[derive(Clone, Copy, Debug, PartialEq, Eq)]
+pub enum Does {
+    Nothing,
+    Clear,
+    Block,
 }
 
-// What the first part leaves, and what is to be done with the table: 0 nothing, 1 clear it, 2 the
-// record's block, for which the quorum is kept.
+// What a handler leaves, and what is to be done with the table.
+#[derive(Clone, Copy)]
+pub struct Handed {
+    pub answer: Answer,
+    pub core: Core,
+    pub at: usize,
+    pub does: Does,
+}
+
+// What the first part leaves, and what is to be done with the table. For a block the quorum is kept.
 #[derive(Clone, Copy)]
 pub struct Begun {
     pub seat: Seat,
-    pub answer: u16,
+    pub answer: Answer,
     pub core: Core,
     pub at: usize,
-    pub does: u8,
+    pub does: Does,
     pub need: Stake,
 }
 
@@ -58,7 +66,7 @@ pub struct Begun {
 // were written.
 #[derive(Clone, Copy)]
 pub struct Stepped {
-    pub answer: u16,
+    pub answer: Answer,
     pub seat: Seat,
     pub core: Core,
     pub written: usize,
@@ -66,15 +74,15 @@ pub struct Stepped {
 
 // ---- the first part
 
-fn early(seat: Seat, core: Core, answer: u16) -> Begun
-    ensures { result ≡ early_begun seat core answer }
+fn early(seat: Seat, core: Core, refusal: Refusal) -> Begun
+    ensures { result ≡ early_begun seat core refusal }
 {
     Begun {
         seat,
-        answer,
+        answer: Err(refusal),
         core,
         at: 0,
-        does: 0,
+        does: Does::Nothing,
         need: Stake(0),
     }
 }
@@ -82,23 +90,21 @@ fn early(seat: Seat, core: Core, answer: u16) -> Begun
 fn of_ran(r: Ran) -> Handed
     ensures { result ≡ ran_handed r }
 {
-    let core = r.core;
     Handed {
         answer: r.answer,
-        core,
+        core: r.core,
         at: r.at,
-        does: 0,
+        does: Does::Nothing,
     }
 }
 
 fn of_handed(seat: Seat, need: Stake, h: Handed) -> Begun
     ensures { result ≡ handed_begun seat need h }
 {
-    let core = h.core;
     Begun {
         seat,
         answer: h.answer,
-        core,
+        core: h.core,
         at: h.at,
         does: h.does,
         need,
@@ -170,22 +176,16 @@ fn boot(
     let at = announce(&stakes[0..n], taken.own, fresh, out);
     Begun {
         seat: taken,
-        answer: DONE,
+        answer: Ok(()),
         core: fresh,
         at,
-        does: 1,
+        does: Does::Clear,
         need: Stake(0),
     }
 }
 
-// What a record of START meets: 18, 17, or a good setup. Memory of other sizes cannot hold a replica.
-#[derive(Clone, Copy)]
-pub enum Booting {
-    NoRoom,
-    BadSetup,
-    Good(Stake),
-}
-
+// What a record of START meets: a good setup, or 18 or 17. Memory of other sizes cannot hold a replica.
+#[tactic(auto, unfolding(crate::specs::Stages::booting_of))]
 fn booting_of(
     stakes: usize,
     votes: usize,
@@ -193,23 +193,16 @@ fn booting_of(
     slots: usize,
     room: usize,
     input: &[u8],
-) -> Booting
+) -> Result<Stake, Refusal>
     ensures { result ≡ booting_of (roomy slots room) (sized stakes votes timeouts) (setup_at (drop 2 input.now)) }
 {
-    if is_roomy(slots, room) {
-        if is_sized(stakes, votes, timeouts) {
-            match check_setup(body_of(input)) {
-                None => {
-                    return Booting::BadSetup;
-                }
-                Some(total) => {
-                    return Booting::Good(total);
-                }
-            }
-        }
-        return Booting::NoRoom;
+    if is_roomy(slots, room) && is_sized(stakes, votes, timeouts) {
+        return match check_setup(body_of(input)) {
+            Some(total) => Ok(total),
+            None => Err(Refusal::BadSetup),
+        };
     }
-    Booting::NoRoom
+    Err(Refusal::NoRoom)
 }
 
 // START on a record that does not count as started.
@@ -233,9 +226,8 @@ fn start(
         out.len(),
         input,
     ) {
-        Booting::NoRoom => early(seat, core, NO_ROOM),
-        Booting::BadSetup => early(seat, core, BAD_SETUP),
-        Booting::Good(total) => boot(stakes, votes, timeouts, out, input, seat, core, total),
+        Ok(total) => boot(stakes, votes, timeouts, out, input, seat, core, total),
+        Err(refusal) => early(seat, core, refusal),
     }
 }
 
@@ -255,21 +247,17 @@ fn propose(
 {
     let b = block_of(input);
     let payload = payload_of(input);
-    let p = handle_proposal(members, need, core, votes, timeouts, out, input, b, payload);
-    let n = p.core;
-    if p.goes_on {
-        return Handed {
-            answer: p.answer,
-            core: n,
-            at: p.at,
-            does: 2,
-        };
-    }
+    let r = handle_proposal(members, need, core, votes, timeouts, out, input, b, payload);
+    let does = if r.answer.is_ok() {
+        Does::Block
+    } else {
+        Does::Nothing
+    };
     Handed {
-        answer: p.answer,
-        core: n,
-        at: p.at,
-        does: 0,
+        answer: r.answer,
+        core: r.core,
+        at: r.at,
+        does,
     }
 }
 
@@ -290,10 +278,10 @@ fn handle(
 {
     match kind {
         Kind::Start => Handed {
-            answer: STARTED_AGAIN,
+            answer: Err(Refusal::StartedAgain),
             core,
             at: 0,
-            does: 0,
+            does: Does::Nothing,
         },
         Kind::Propose => propose(members, own, need, core, votes, timeouts, out, input),
         Kind::Vote => {
@@ -309,10 +297,10 @@ fn handle(
             of_ran(handle_tc(members, own, need, core, votes, timeouts, out, input, round))
         }
         Kind::Loopback => Handed {
-            answer: DONE,
+            answer: Ok(()),
             core,
             at: 0,
-            does: 2,
+            does: Does::Block,
         },
         Kind::Tick => of_ran(local_timeout_round(members, own, need, core, votes, timeouts, out)),
     }
@@ -335,26 +323,27 @@ fn ready(
     ensures { Begins (ready_in seat stakes.now (whole core votes.old timeouts.old) (roomy slots (length out.old)) input.now kind) (roomy slots (length out.old)) input.now out.old result stakes.now votes.new timeouts.new out.new }
 {
     if is_roomy(slots, out.len()) {
-        let limit = limit_of(input, kind);
-        if limit != 0 {
-            return early(seat, core, limit);
-        }
-        let n = seat.count as usize;
-        let need = quorum_threshold(total);
-        let h = handle(
-            &stakes[0..n],
-            seat.own,
-            need,
-            core,
-            votes,
-            timeouts,
-            out,
-            input,
-            kind,
-        );
-        return of_handed(seat, need, h);
+        return match limit_of(input, kind) {
+            Ok(()) => {
+                let n = seat.count as usize;
+                let need = quorum_threshold(total);
+                let h = handle(
+                    &stakes[0..n],
+                    seat.own,
+                    need,
+                    core,
+                    votes,
+                    timeouts,
+                    out,
+                    input,
+                    kind,
+                );
+                of_handed(seat, need, h)
+            }
+            Err(refusal) => early(seat, core, refusal),
+        };
     }
-    early(seat, core, NO_ROOM)
+    early(seat, core, Refusal::NoRoom)
 }
 
 fn is_start(kind: Kind) -> bool
@@ -377,18 +366,18 @@ pub fn begin(
     ensures { Begins (staged_of seat stakes.old (whole core votes.old timeouts.old) (roomy slots (length out.old)) input.now) (roomy slots (length out.old)) input.now out.old result stakes.new votes.new timeouts.new out.new }
 {
     let Some(kind) = form_of(input) else {
-        return early(seat, core, BAD_RECORD);
+        return early(seat, core, Refusal::BadRecord);
     };
     match total_of(seat, stakes, votes, timeouts) {
         None => {
             if is_start(kind) {
                 return start(stakes, votes, timeouts, out, input, seat, core, slots);
             }
-            early(seat, core, NOT_STARTED)
+            early(seat, core, Refusal::NotStarted)
         }
         Some(total) => {
             if is_start(kind) {
-                return early(seat, core, STARTED_AGAIN);
+                return early(seat, core, Refusal::StartedAgain);
             }
             ready(
                 stakes, votes, timeouts, out, input, seat, core, slots, total, kind,
@@ -399,32 +388,16 @@ pub fn begin(
 
 // ---- the table
 
-fn no_slot() -> Slot
-    ensures { result ≡ no_slot }
-{
-    Slot {
-        used: false,
-        digest: Hash::ZERO,
-        round: Round(0),
-        parent: Hash::ZERO,
-        parent_round: Round(0),
-    }
-}
-
 // A block as it is stored.
 fn slot_of(k: Block) -> Slot
     ensures { result ≡ slot_for k }
 {
-    let digest = k.digest;
-    let round = k.round;
-    let parent = k.qc_hash;
-    let parent_round = k.qc_round;
     Slot {
         used: true,
-        digest,
-        round,
-        parent,
-        parent_round,
+        digest: k.digest,
+        round: k.round,
+        parent: k.qc_hash,
+        parent_round: k.qc_round,
     }
 }
 
@@ -432,26 +405,20 @@ fn slot_of(k: Block) -> Slot
 pub fn work_of(input: &[u8], b: Begun) -> Work
     ensures { result ≡ work_at b (block_of input.now) }
 {
-    let core = b.core;
-    let last = core.last_committed_round;
-    if b.does == 2 {
-        let k = block_of(input);
-        let block = slot_of(k);
-        let author = k.author;
-        return Work {
-            does: 2,
-            block,
-            author,
-            last,
-            at: b.at,
-        };
-    }
-    let block = no_slot();
+    let task = match b.does {
+        Does::Nothing => Task::Nothing,
+        Does::Clear => Task::Clear,
+        Does::Block => {
+            let k = block_of(input);
+            Task::Store {
+                block: slot_of(k),
+                author: k.author,
+            }
+        }
+    };
     Work {
-        does: b.does,
-        block,
-        author: Place(0),
-        last,
+        task,
+        last: b.core.last_committed_round,
         at: b.at,
     }
 }
@@ -486,11 +453,10 @@ fn conclude(
         at,
         k,
     );
-    let next = r.core;
     Stepped {
         answer: r.answer,
         seat,
-        core: next,
+        core: r.core,
         written: r.at,
     }
 }
@@ -506,28 +472,25 @@ pub fn finish(
     s: Settled,
 ) -> Stepped
     requires { Finishable b s input.now stakes.now votes.old timeouts.old (length out.old) }
-    ensures { Finishes (finished_of (members_of b.seat stakes.now) b.seat.own.0 (whole b.core votes.old timeouts.old) b.does b.answer s.answer s.last.0 (block_of input.now)) voting_most b.seat out.old s.at result votes.new timeouts.new out.new }
+    ensures { Finishes (finished_of (members_of b.seat stakes.now) b.seat.own.0 (whole b.core votes.old timeouts.old) b.does (number b.answer) (number s.answer) s.last.0 (block_of input.now)) voting_most b.seat out.old s.at result votes.new timeouts.new out.new }
 {
-    let seat = b.seat;
-    let core = b.core;
-    if b.does == 2 {
-        let last = s.last;
-        let mut n = core;
-        n.last_committed_round = last;
-        if s.answer == DONE {
-            return conclude(stakes, votes, timeouts, out, input, b, n, s.at);
-        }
-        return Stepped {
-            answer: s.answer,
-            seat,
-            core: n,
-            written: s.at,
+    if let Does::Block = b.does {
+        let mut n = b.core;
+        n.last_committed_round = s.last;
+        return match s.answer {
+            Ok(()) => conclude(stakes, votes, timeouts, out, input, b, n, s.at),
+            Err(refusal) => Stepped {
+                answer: Err(refusal),
+                seat: b.seat,
+                core: n,
+                written: s.at,
+            },
         };
     }
     Stepped {
         answer: b.answer,
-        seat,
-        core,
+        seat: b.seat,
+        core: b.core,
         written: s.at,
     }
 }

@@ -1,5 +1,6 @@
 // The public entry: any record, any lent memory. The record may be a part of what is lent.
 ghost use Rattle.std.specs.Prelude.{◌≡◌, ◌≤◌, length};
+ghost use Rattle.certificates.specs.Error.{number};
 ghost use Rattle.handlers.specs.Votes.{voting_most};
 ghost use Rattle.trace.specs.Fields.{block_of};
 ghost use Rattle.moves.specs.State.{whole};
@@ -74,7 +75,7 @@ pub(crate) fn finish_in(
     s: Settled,
 ) -> Stepped
     requires { Finishable b s (record_in order input.now) stakes.now votes.old timeouts.old (length out.old) }
-    ensures { Finishes (finished_of (members_of b.seat stakes.now) b.seat.own.0 (whole b.core votes.old timeouts.old) b.does b.answer s.answer s.last.0 (block_of (record_in order input.now))) voting_most b.seat out.old s.at result votes.new timeouts.new out.new }
+    ensures { Finishes (finished_of (members_of b.seat stakes.now) b.seat.own.0 (whole b.core votes.old timeouts.old) b.does (number b.answer) (number s.answer) s.last.0 (block_of (record_in order input.now))) voting_most b.seat out.old s.at result votes.new timeouts.new out.new }
 {
     let part = middle(input, order.from, order.to);
     finish(stakes, votes, timeouts, out, part, b, s)
