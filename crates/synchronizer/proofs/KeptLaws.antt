@@ -12,12 +12,12 @@ use Rattle.certificates.specs.Error.{table_full, ancestor_absent, round_not_belo
 use Rattle.outputs.specs.Records.{Rec}
 use Rattle.std.specs.Prelude.{Option, Some, None}
 use Rattle.synchronizer.specs.declared.table.Slot.{Slot}
-use Rattle.synchronizer.specs.declared.settle.Work.{Work}
-use Rattle.synchronizer.specs.Table.{place_of, stored, parent_of, slot_in, ancestors_by, ancestors_of}
+use Rattle.synchronizer.specs.declared.settle.Arrival.{Arrival}
+use Rattle.synchronizer.specs.Table.{place_of, stored, parent_of, slot_in, b0_of, b1_of, ancestors_by, ancestors_of, found_number}
 use Rattle.synchronizer.specs.Walk.{Walk, refused as stopped, delivers, and_newer, on_parent, walk_from, walk_of, Commit, committed_by, commit_of, no_commit}
-use Rattle.synchronizer.specs.Settle.{Settlement, answered, is_two_chain, clean_of, commit_if, linked_of, processed_by, processed_of, wait_of, asking, settled_of, block}
+use Rattle.synchronizer.specs.Settle.{Settlement, answered, is_two_chain, clean_of, commit_if, linked_of, processed_of, wait_of, asking, brought, settled_of}
 use Rattle.synchronizer.specs.Kept.{linked, Keeps}
-use Rattle.synchronizer.proofs.SettleLaws.{settled-block}
+use Rattle.synchronizer.proofs.SettleLaws.{processed-is, settled-block}
 
 -- ---- a walk that is refused commits nothing
 
@@ -76,12 +76,12 @@ commit-rows t b0 b1 last = cases (is_two_chain b0 b1) (ltb last b0.round.0)
 
 -- ---- every settlement is one of the rows
 
-module _ (t : List Slot) (w : Work) where
+module _ (t : List Slot) (w : Arrival) where
   abbrev b0 : Slot
-  b0 = (ancestors_of t w.block).b0
+  b0 = b0_of t w.block
 
   abbrev b1 : Slot
-  b1 = (ancestors_of t w.block).b1
+  b1 = b1_of t w.block
 
   abbrev clean : List Rec
   clean = clean_of b0 b1 w.block
@@ -98,21 +98,25 @@ module _ (t : List Slot) (w : Work) where
   linked-rows (inr (inr e)) =
       inr (inr (inr (inr (inl (rw e (ap (answered round_not_below (stored t w.block) w.last.0) (append-nil (clean ++ []) ∙ append-nil clean)))))))
 
-  ancestors-rows : (p1 p0 : Option Slot) → eqb (ancestors_by p1 p0).answer 0 ≡ false → Keeps t w (asking w (answered (ancestors_by p1 p0).answer t w.last.0 []))
+  options-rows : (p1 p0 : Option Slot) → eqb (found_number (ancestors_by p1 p0)) 0 ≡ false → Keeps t w (asking w (answered (found_number (ancestors_by p1 p0)) t w.last.0 []))
   unfolding wait_of
-  ancestors-rows None p0 e = inl refl
-  ancestors-rows (Some _) None e = inr (inr (inl refl))
-  ancestors-rows (Some _) (Some _) e = absurd (true≢false e)
+  options-rows None p0 e = inl refl
+  options-rows (Some _) None e = inr (inr (inl refl))
+  options-rows (Some _) (Some _) e = absurd (true≢false e)
+
+  ancestors-rows : eqb (found_number (ancestors_of t w.block)) 0 ≡ false → Keeps t w (asking w (answered (found_number (ancestors_of t w.block)) t w.last.0 []))
+  unfolding ancestors_of
+  ancestors-rows e = options-rows (parent_of t w.block) (parent_of t (b1_of t w.block)) e
 
   processed-rows : Keeps t w (asking w (processed_of t w))
-  unfolding processed_by ancestors_of wait_of
-  processed-rows = cases (eqb (ancestors_of t w.block).answer 0) (ltb (place_of t w.block) (length t)) refl
+  unfolding wait_of
+  processed-rows = rw (processed-is t w) (cases (eqb (found_number (ancestors_of t w.block)) 0) (ltb (place_of t w.block) (length t)) refl)
     where
-      cases : (u v : Bool) → eqb (ancestors_of t w.block).answer 0 ≡ u
-          → Keeps t w (asking w (cond u (cond v (linked t w) (answered table_full t w.last.0 [])) (answered (ancestors_of t w.block).answer t w.last.0 [])))
+      cases : (u v : Bool) → eqb (found_number (ancestors_of t w.block)) 0 ≡ u
+          → Keeps t w (asking w (cond u (cond v (linked t w) (answered table_full t w.last.0 [])) (answered (found_number (ancestors_of t w.block)) t w.last.0 [])))
       cases true true e = linked-rows (commit-rows (stored t w.block) b0 b1 w.last.0)
       cases true false e = inr (inl refl)
-      cases false v e = ancestors-rows (parent_of t w.block) (parent_of t (slot_in (parent_of t w.block))) e
+      cases false v e = ancestors-rows e
 
-  pub settled-keeps : w.does ≡ block → Keeps t w (settled_of t w)
-  settled-keeps e = rw (settled-block t w e) processed-rows
+  pub settled-keeps : Keeps t w (settled_of t (brought w))
+  settled-keeps = rw (settled-block t w) processed-rows

@@ -11,7 +11,6 @@
 --     Closed t                 every parent of a slot in use is in the table
 --     closed-cleared, closed-stored      a cleared table is closed; a store that found its block's parent keeps it closed
 --     closed-ancestors         in a closed table no grandparent is absent
---     ancestors-both           both ancestors are found where the answer is 0
 --     Line t b, line           b1 and b0 in the table, by the QCs that name them
 --     Stopped t b last n, settled-stopped     what a block that is answered 30 or 31 met
 use Prim.Native.Nat.{ℕ, zero, suc, ◌+◌, ◌≤◌, ◌<◌}
@@ -30,17 +29,17 @@ use Rattle.certificates.specs.Numbers.{same_hash}
 use Rattle.certificates.specs.Messages.{is_genesis}
 use Rattle.certificates.proofs.NumbersLaws.{hash-same, hash-self, genesis-is}
 use Rattle.certificates.specs.Error.{wait_parent, table_full, ancestor_absent, round_not_below}
-use Rattle.std.specs.Prelude.{Option, Some, is_some}
+use Rattle.std.specs.Prelude.{Option, None, Some, is_some}
 use Rattle.synchronizer.specs.declared.table.Slot.{Slot}
 use Rattle.synchronizer.specs.declared.table.Want.{Want}
 use Rattle.synchronizer.specs.declared.table.Want.TheVariants.{Free, Digest}
-use Rattle.synchronizer.specs.Table.{blank, slot_at, fits, lowest, place_of, stored, cleared, genesis, parent_of, slot_in, ancestors_of}
-use Rattle.synchronizer.specs.declared.settle.Work.{Work}
+use Rattle.synchronizer.specs.Table.{blank, slot_at, fits, lowest, place_of, stored, cleared, genesis, parent_of, slot_in, b0_of, b1_of, ancestors_by, ancestors_of, found_number}
+use Rattle.synchronizer.specs.declared.settle.Arrival.{Arrival}
 use Rattle.synchronizer.specs.Walk.{Walk, refused, delivers, and_newer, on_parent, walk_from, walk_of, committed_by, commit_of, no_commit}
-use Rattle.synchronizer.specs.Settle.{answered, is_two_chain, commit_if, linked_of, processed_by, settled_of, block}
-use Rattle.synchronizer.proofs.TableLaws.{stored-length, found-at}
+use Rattle.synchronizer.specs.Settle.{answered, is_two_chain, commit_if, linked_of, brought, settled_of}
+use Rattle.synchronizer.proofs.TableLaws.{ancestors-both, stored-length, found-at}
 use Rattle.synchronizer.proofs.WalkLaws.{walk_step, on-parent-found, on-parent-absent}
-use Rattle.synchronizer.proofs.SettleLaws.{settled-block}
+use Rattle.synchronizer.proofs.SettleLaws.{processed-is, settled-block}
 
 pub record Has (t : List Slot) (s : Slot) : Type 0 where
   pub place : ℕ
@@ -189,30 +188,21 @@ module _ (t : List Slot) (b : Slot) where
       new s (inl e) = rw e (stays-found b u f)
       new s (inr h) = stays-found s u (c.parent s h)
 
-both_found : (x y : Bool) → cond x (cond y 0 ancestor_absent) wait_parent ≡ 0 → (x ≡ true) × (y ≡ true)
-both_found true true e = (refl, refl)
-both_found true false e = absurd (omega arith)
-both_found false y e = absurd (omega arith)
-
-pub ancestors-both : (t : List Slot) (b : Slot) → (ancestors_of t b).answer ≡ 0 → (is_some (parent_of t b) ≡ true) × (is_some (parent_of t (ancestors_of t b).b1) ≡ true)
-unfolding ancestors_of
-ancestors-both t b e = both_found (is_some (parent_of t b)) (is_some (parent_of t (slot_in (parent_of t b)))) e
-
 -- b1 is named by the block's QC and b0 by that of b1, and neither is genesis
 pub record Line (t : List Slot) (b : Slot) : Type 0 where
   pub other1 : is_genesis b.parent b.parent_round.0 ≡ false
-  pub has1 : Has t (ancestors_of t b).b1
-  pub on1 : (ancestors_of t b).b1.digest ≡ b.parent
-  pub other0 : is_genesis (ancestors_of t b).b1.parent (ancestors_of t b).b1.parent_round.0 ≡ false
-  pub has0 : Has t (ancestors_of t b).b0
-  pub on0 : (ancestors_of t b).b0.digest ≡ (ancestors_of t b).b1.parent
+  pub has1 : Has t (b1_of t b)
+  pub on1 : (b1_of t b).digest ≡ b.parent
+  pub other0 : is_genesis (b1_of t b).parent (b1_of t b).parent_round.0 ≡ false
+  pub has0 : Has t (b0_of t b)
+  pub on0 : (b0_of t b).digest ≡ (b1_of t b).parent
 
-pub line : (t : List Slot) (b : Slot) → (ancestors_of t b).answer ≡ 0 → 0 < (ancestors_of t b).b0.round.0 → 0 < (ancestors_of t b).b1.round.0 → Line t b
+pub line : (t : List Slot) (b : Slot) → found_number (ancestors_of t b) ≡ 0 → 0 < (b0_of t b).round.0 → 0 < (b1_of t b).round.0 → Line t b
 unfolding ancestors_of
 line t b e l0 l1 = one (is_genesis b.parent b.parent_round.0) refl
   where
     f : (is_some (parent_of t b) ≡ true) × (is_some (parent_of t (slot_in (parent_of t b))) ≡ true)
-    f = both_found (is_some (parent_of t b)) (is_some (parent_of t (slot_in (parent_of t b)))) e
+    f = ancestors-both t b e
 
     two : (g : Bool) → is_genesis b.parent b.parent_round.0 ≡ false → is_genesis (slot_in (parent_of t b)).parent (slot_in (parent_of t b)).parent_round.0 ≡ g → Line t b
     two true o g =
@@ -229,16 +219,16 @@ line t b e l0 l1 = one (is_genesis b.parent b.parent_round.0) refl
         absurd (omega arith)
     one false g = two (is_genesis (slot_in (parent_of t b)).parent (slot_in (parent_of t b)).parent_round.0) g refl
 
-absent-found : (x y : Bool) → cond x (cond y 0 ancestor_absent) wait_parent ≡ ancestor_absent → (x ≡ true) × (y ≡ false)
-absent-found true true e = absurd (omega arith)
-absent-found true false e = (refl, refl)
-absent-found false y e = absurd (omega arith)
+absent-found : (p1 p0 : Option Slot) → found_number (ancestors_by p1 p0) ≡ ancestor_absent → (is_some p1 ≡ true) × (is_some p0 ≡ false)
+absent-found None p0 e = absurd (omega arith)
+absent-found (Some b1) None e = (refl, refl)
+absent-found (Some b1) (Some b0) e = absurd (omega arith)
 
 -- In a closed table no grandparent is absent.
-pub closed-ancestors : (t : List Slot) (b : Slot) → Closed t → (ancestors_of t b).answer ≡ ancestor_absent → ⊥
+pub closed-ancestors : (t : List Slot) (b : Slot) → Closed t → found_number (ancestors_of t b) ≡ ancestor_absent → ⊥
 unfolding ancestors_of
 closed-ancestors t b c e =
-    let f = absent-found (is_some (parent_of t b)) (is_some (parent_of t (slot_in (parent_of t b)))) e in
+    let f = absent-found (parent_of t b) (parent_of t (b1_of t b)) e in
     cases (is_genesis b.parent b.parent_round.0) refl f.0 f.1
   where
     cases : (g : Bool) → is_genesis b.parent b.parent_round.0 ≡ g → is_some (parent_of t b) ≡ true → is_some (parent_of t (slot_in (parent_of t b))) ≡ false → ⊥
@@ -362,46 +352,46 @@ module _ (t : List Slot) (last : ℕ) where
 
 -- "30 | b0 or a walked parent absent", "31 | walked parent's round not below its child's"
 pub data Stopped (t : List Slot) (b : Slot) (last n : ℕ) : Type 0 where
-  no-b0 : n ≡ ancestor_absent → (ancestors_of t b).answer ≡ ancestor_absent → Stopped t b last n
-  in-walk : (ancestors_of t b).answer ≡ 0 → (ancestors_of t b).b0.round.0 + 1 ≡ (ancestors_of t b).b1.round.0 → last < (ancestors_of t b).b0.round.0
-      → walk_of (stored t b) (ancestors_of t b).b0 last ≡ refused n → Stopped t b last n
+  no-b0 : n ≡ ancestor_absent → found_number (ancestors_of t b) ≡ ancestor_absent → Stopped t b last n
+  in-walk : found_number (ancestors_of t b) ≡ 0 → (b0_of t b).round.0 + 1 ≡ (b1_of t b).round.0 → last < (b0_of t b).round.0
+      → walk_of (stored t b) (b0_of t b) last ≡ refused n → Stopped t b last n
 
-module _ (t : List Slot) (w : Work) (n : ℕ) (ne : n ≡ 0 → ⊥) (nw : n ≡ wait_parent → ⊥) (nf : n ≡ table_full → ⊥) where
+module _ (t : List Slot) (w : Arrival) (n : ℕ) (ne : n ≡ 0 → ⊥) (nw : n ≡ wait_parent → ⊥) (nf : n ≡ table_full → ⊥) where
   abbrev b : Slot
   b = w.block
 
   abbrev last : ℕ
   last = w.last.0
 
-  by-walk : (v : Walk) → (committed_by (ancestors_of t b).b0 last v).answer ≡ n → v ≡ refused n
+  by-walk : (v : Walk) → (committed_by (b0_of t b) last v).answer ≡ n → v ≡ refused n
   by-walk (refused k) e = ap refused e
   by-walk (delivers bs) e = absurd (ne (sym e))
 
-  by-commit : (x y : Bool) → is_two_chain (ancestors_of t b).b0 (ancestors_of t b).b1 ≡ x → ltb last (ancestors_of t b).b0.round.0 ≡ y → (ancestors_of t b).answer ≡ 0
-      → (cond x (cond y (committed_by (ancestors_of t b).b0 last (walk_of (stored t b) (ancestors_of t b).b0 last)) (no_commit last)) (no_commit last)).answer ≡ n → Stopped t b last n
+  by-commit : (x y : Bool) → is_two_chain (b0_of t b) (b1_of t b) ≡ x → ltb last (b0_of t b).round.0 ≡ y → found_number (ancestors_of t b) ≡ 0
+      → (cond x (cond y (committed_by (b0_of t b) last (walk_of (stored t b) (b0_of t b) last)) (no_commit last)) (no_commit last)).answer ≡ n → Stopped t b last n
   unfolding is_two_chain
   by-commit true true f g found e = in-walk found (eqb-true _ _ f) (ltb-true _ _ g) (by-walk _ e)
   by-commit true false f g found e = absurd (ne (sym e))
   by-commit false y f g found e = absurd (ne (sym e))
 
-  by-ancestors : (ancestors_of t b).answer ≡ n → n ≡ ancestor_absent
-  unfolding ancestors_of
-  by-ancestors e = cases (is_some (parent_of t b)) (is_some (parent_of t (slot_in (parent_of t b)))) e
-    where
-      cases : (x y : Bool) → cond x (cond y 0 ancestor_absent) wait_parent ≡ n → n ≡ ancestor_absent
-      cases true true e = absurd (ne (sym e))
-      cases true false e = sym e
-      cases false y e = absurd (nw (sym e))
+  by-options : (p1 p0 : Option Slot) → found_number (ancestors_by p1 p0) ≡ n → n ≡ ancestor_absent
+  by-options None p0 e = absurd (nw (sym e))
+  by-options (Some b1) None e = sym e
+  by-options (Some b1) (Some b0) e = absurd (ne (sym e))
 
-  by-store : (x y : Bool) → eqb (ancestors_of t b).answer 0 ≡ x
-      → (cond x (cond y (linked_of (stored t b) b (ancestors_of t b).b0 (ancestors_of t b).b1 last) (answered table_full t last [])) (answered (ancestors_of t b).answer t last [])).answer ≡ n
+  by-ancestors : found_number (ancestors_of t b) ≡ n → n ≡ ancestor_absent
+  unfolding ancestors_of
+  by-ancestors e = by-options (parent_of t b) (parent_of t (b1_of t b)) e
+
+  by-store : (x y : Bool) → eqb (found_number (ancestors_of t b)) 0 ≡ x
+      → (cond x (cond y (linked_of (stored t b) b (b0_of t b) (b1_of t b) last) (answered table_full t last [])) (answered (found_number (ancestors_of t b)) t last [])).answer ≡ n
       → Stopped t b last n
   unfolding linked_of commit_if commit_of
-  by-store true true f e = by-commit (is_two_chain (ancestors_of t b).b0 (ancestors_of t b).b1) (ltb last (ancestors_of t b).b0.round.0) refl refl (eqb-true _ 0 f) e
+  by-store true true f e = by-commit (is_two_chain (b0_of t b) (b1_of t b)) (ltb last (b0_of t b).round.0) refl refl (eqb-true _ 0 f) e
   by-store true false f e = absurd (nf (sym e))
   by-store false y f e = let a = by-ancestors e in no-b0 a (e ∙ a)
 
   -- What a block met that is answered another number than 0, 2 and 28.
-  pub settled-stopped : w.does ≡ block → (settled_of t w).answer ≡ n → Stopped t b last n
-  unfolding processed_by
-  settled-stopped d e = by-store (eqb (ancestors_of t b).answer 0) (ltb (place_of t b) (length t)) refl (rw (settled-block t w d) at e)
+  pub settled-stopped : (settled_of t (brought w)).answer ≡ n → Stopped t b last n
+  settled-stopped e =
+      by-store (eqb (found_number (ancestors_of t b)) 0) (ltb (place_of t b) (length t)) refl (rw (settled-block t w, processed-is t w) at e)

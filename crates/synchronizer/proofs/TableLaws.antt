@@ -1,11 +1,14 @@
 -- Laws of `specs/Table.antt`.
 --     found-lowest    what is found is the lowest place, where that is one of the table
 --     found-at        where a slot was found, it is the one at its place
+--     or-refused, or-given     what an option was that has a refusal for none
 --     given-.., no-parent, no-grandparent, both-found     a parent and the ancestors, as code comes by them
+--     ancestors-are, ancestors-found   what is found: the parent and the grandparent
+--     ancestors-both  both ancestors are found where the number is 0
 --     store-..        a store, as code comes to it
 --     stored-length, cleared-length the table is as long as before
 -- Assumes nothing.
-use mathlib.Core.Path.{◌≡◌, refl, sym, ◌∙◌}
+use mathlib.Core.Path.{◌≡◌, refl, sym, ◌∙◌, ap}
 use Prim.Native.Nat.{ℕ, ◌<◌}
 use native.Mathlib.Omega.{arith}
 use mathlib.Core.Bool.{Bool, true, false, cond, true≢false}
@@ -14,18 +17,19 @@ use lib.Dec.{ltb}
 use borrow.Author.Tests.{ltb-true, ltb-false}
 use lib.ListN.{length, set, length-set, length-replicate}
 use lib.Seq.{set_out}
-use Rattle.std.specs.Prelude.{Option, Some, None, is_some}
+use Rattle.std.specs.Prelude.{Option, Some, None, is_some, Ok, Err}
 use Rattle.std.specs.List.{position_or_len}
-use Rattle.std.specs.Option.{option_or}
+use Rattle.std.specs.Option.{option_or, ok_or}
 use Rattle.synchronizer.specs.declared.table.Slot.{Slot}
 use Rattle.synchronizer.specs.declared.table.Want.{Want}
 use Rattle.synchronizer.specs.declared.table.Want.TheVariants.{Free, Digest}
 use Rattle.synchronizer.specs.declared.ancestors.Ancestors.{Ancestors}
-use Rattle.certificates.specs.Error.{wait_parent, table_full, ancestor_absent}
+use Rattle.certificates.specs.declared.error.Refusal.{Refusal}
+use Rattle.certificates.specs.declared.error.Refusal.TheVariants.{WaitParent, TableFull, AncestorAbsent}
+use Rattle.certificates.specs.Error.{code}
 use Rattle.certificates.specs.Messages.{is_genesis}
-use Rattle.certificates.proofs.NumbersLaws.{genesis-is}
 use Rattle.std.proofs.lemmas.Option.{cond_some, none-some}
-use Rattle.synchronizer.specs.Table.{blank, slot_at, fits, lowest, found_in, place_of, stored, store_answer, cleared, genesis, found_at, parent_of, ancestors_of}
+use Rattle.synchronizer.specs.Table.{blank, slot_at, fits, lowest, found_in, place_of, stored, store_answer, cleared, genesis, found_at, parent_of, slot_in, b0_of, b1_of, ancestors_by, ancestors_of, found_number}
 use Rattle.synchronizer.proofs.Tests.{by_cases}
 
 -- ---- what was found
@@ -64,20 +68,56 @@ module _ (t : List Slot) (b : Slot) where
     unfolding parent_of
     given-some {i} h = let k = cond_some _ _ _ (sym (found-lowest t (Digest b.parent)) ∙ h) in rw (e, k.0, k.1)
 
+-- what an option was, by what it comes to with a refusal for none
+pub or-refused : {A : Type 0} (o : Option A) (e : Refusal) {x : Refusal} → ok_or o e ≡ Err x → (o ≡ None) × (e ≡ x)
+or-refused None e h = (refl, (cc))
+or-refused (Some y) e h = absurd (let z : ◌≡◌ {A = ℕ} 0 1 = cc in omega arith)
+
+pub or-given : {A : Type 0} (o : Option A) (e : Refusal) {x : A} → ok_or o e ≡ Ok x → o ≡ Some x
+or-given None e h = absurd (let z : ◌≡◌ {A = ℕ} 0 1 = cc in omega arith)
+or-given (Some y) e h = let same : y ≡ _ = cc in ap Some same
+
 module _ (t : List Slot) (b : Slot) {p : Option Slot} (e : p ≡ parent_of t b) where
-  -- the parent of a blank slot is genesis
-  pub no-parent : {g s : Slot} → p ≡ None → g ≡ genesis → s ≡ blank → ◌≡◌ {A = Ancestors} (record { answer = wait_parent; b0 = g; b1 = s }) (ancestors_of t b)
-  unfolding ancestors_of parent_of
-  no-parent n h k = rw (← e, n, h, k, genesis-is)
+  pub no-parent : {x : Refusal} → ok_or p WaitParent ≡ Err x → Err x ≡ ancestors_of t b
+  unfolding ancestors_of
+  no-parent h = let n = or-refused p WaitParent h in rw (← e, n.0, n.1)
 
-  module _ (b1 : Slot) (one : p ≡ Some b1) {q : Option Slot} (f : q ≡ parent_of t b1) where
-    pub no-grandparent : {s : Slot} → q ≡ None → s ≡ blank → ◌≡◌ {A = Ancestors} (record { answer = ancestor_absent; b0 = s; b1 = b1 }) (ancestors_of t b)
+  module _ {b1 : Slot} (one : ok_or p WaitParent ≡ Ok b1) {q : Option Slot} (f : q ≡ parent_of t b1) where
+    pub no-grandparent : {x : Refusal} → ok_or q AncestorAbsent ≡ Err x → Err x ≡ ancestors_of t b
     unfolding ancestors_of
-    no-grandparent n k = rw (← e, one, ← f, n, k)
+    no-grandparent h = let n = or-refused q AncestorAbsent h in rw (← e, or-given p WaitParent one, ← f, n.0, n.1)
 
-    pub both-found : (b0 : Slot) → q ≡ Some b0 → ◌≡◌ {A = Ancestors} (record { answer = 0; b0 = b0; b1 = b1 }) (ancestors_of t b)
+    pub both-found : {b0 : Slot} → ok_or q AncestorAbsent ≡ Ok b0 → Ok (record { b0 = b0; b1 = b1 }) ≡ ancestors_of t b
     unfolding ancestors_of
-    both-found b0 y = rw (← e, one, ← f, y)
+    both-found h = rw (← e, or-given p WaitParent one, ← f, or-given q AncestorAbsent h)
+
+-- the ancestors that were found are the parent and the grandparent
+by-found : (p1 p0 : Option Slot) {a : Ancestors} → ancestors_by p1 p0 ≡ Ok a → a ≡ record { b0 = slot_in p0; b1 = slot_in p1 }
+by-found None p0 e = absurd (let z : ◌≡◌ {A = ℕ} 0 1 = cc in omega arith)
+by-found (Some b1) None e = absurd (let z : ◌≡◌ {A = ℕ} 0 1 = cc in omega arith)
+by-found (Some b1) (Some b0) e = cc
+
+by-number : (p1 p0 : Option Slot) → found_number (ancestors_by p1 p0) ≡ 0 → ancestors_by p1 p0 ≡ Ok (record { b0 = slot_in p0; b1 = slot_in p1 })
+by-number None p0 e = absurd (omega arith)
+by-number (Some b1) None e = absurd (omega arith)
+by-number (Some b1) (Some b0) e = refl
+
+by-both : (p1 p0 : Option Slot) → found_number (ancestors_by p1 p0) ≡ 0 → (is_some p1 ≡ true) × (is_some p0 ≡ true)
+by-both None p0 e = absurd (omega arith)
+by-both (Some b1) None e = absurd (omega arith)
+by-both (Some b1) (Some b0) e = (refl, refl)
+
+pub ancestors-are : (t : List Slot) (b : Slot) {a : Ancestors} → ancestors_of t b ≡ Ok a → a ≡ record { b0 = b0_of t b; b1 = b1_of t b }
+unfolding ancestors_of
+ancestors-are t b e = by-found (parent_of t b) (parent_of t (b1_of t b)) e
+
+pub ancestors-found : (t : List Slot) (b : Slot) → found_number (ancestors_of t b) ≡ 0 → ancestors_of t b ≡ Ok (record { b0 = b0_of t b; b1 = b1_of t b })
+unfolding ancestors_of
+ancestors-found t b e = by-number (parent_of t b) (parent_of t (b1_of t b)) e
+
+pub ancestors-both : (t : List Slot) (b : Slot) → found_number (ancestors_of t b) ≡ 0 → (is_some (parent_of t b) ≡ true) × (is_some (parent_of t (b1_of t b)) ≡ true)
+unfolding ancestors_of
+ancestors-both t b e = by-both (parent_of t b) (parent_of t (b1_of t b)) e
 
 -- ---- a store, as code comes to it
 
@@ -94,17 +134,18 @@ or-else None q r f g = f refl
 or-else (Some x) q r f g = g x refl
 
 module _ (t : List Slot) (b : Slot) {r : Option ℕ} (e : r ≡ option_or (found_in t (Digest b.digest)) (found_in t Free)) where
-  pub store-some : {i : ℕ} {zs : List Slot} → r ≡ Some i → zs ≡ set t i b → (0 ≡ store_answer (place_of t b) (length t)) × (zs ≡ stored t b)
+  pub store-some : {i : ℕ} {zs : List Slot} → ok_or r TableFull ≡ Ok i → zs ≡ set t i b → (0 ≡ store_answer (place_of t b) (length t)) × (zs ≡ stored t b)
   unfolding stored
-  store-some {i} h f = let k = cond_some _ _ _ (sym (e ∙ place_found t b) ∙ h) in (rw k.0, rw (f, k.1))
+  store-some {i} h f = let k = cond_some _ _ _ (sym (e ∙ place_found t b) ∙ or-given r TableFull h) in (rw k.0, rw (f, k.1))
 
   -- a store that is refused changes nothing
-  pub store-none : r ≡ None → (table_full ≡ store_answer (place_of t b) (length t)) × (t ≡ stored t b)
+  pub store-none : {x : Refusal} → ok_or r TableFull ≡ Err x → (code x ≡ store_answer (place_of t b) (length t)) × (t ≡ stored t b)
   unfolding stored
   store-none h =
+      let n = or-refused r TableFull h in
       by_cases (ltb (place_of t b) (length t))
-      (λ f. let is : None ≡ Some (place_of t b) = sym h ∙ e ∙ place_found t b ∙ rw f in absurd (none-some _ is))
-      (λ f. (rw f, sym (set_out t (place_of t b) b (ltb-false _ _ f))))
+      (λ f. let is : None ≡ Some (place_of t b) = sym n.0 ∙ e ∙ place_found t b ∙ rw f in absurd (none-some _ is))
+      (λ f. (rw (f, ← n.1), sym (set_out t (place_of t b) b (ltb-false _ _ f))))
 
 -- ---- the table is as long as before
 

@@ -23,11 +23,11 @@ use Rattle.certificates.specs.Messages.{is_genesis}
 use Rattle.std.specs.Prelude.{Option, Some, None, is_some, Result, Ok, Err}
 use Rattle.synchronizer.specs.declared.table.Slot.{Slot}
 use Rattle.synchronizer.specs.declared.table.Want.TheVariants.{Digest}
-use Rattle.synchronizer.specs.declared.commit.Walked.{Walked}
-use Rattle.certificates.specs.Error.{wait_parent, ancestor_absent, round_not_below}
+use Rattle.certificates.specs.declared.error.Refusal.{Refusal}
+use Rattle.certificates.specs.Error.{wait_parent, ancestor_absent, round_not_below, code}
 use Rattle.synchronizer.specs.Table.{slot_at, lowest, genesis, parent_of, slot_in}
 use Rattle.synchronizer.specs.Walk.{Walk, refused, delivers, and_newer, on_parent, walk_from, walk_of, no_commit, committed_by, commit_of, chain_of}
-use Rattle.synchronizer.specs.Parts.{count_of, next_walked}
+use Rattle.synchronizer.specs.Parts.{Count, counted, count_of, next_walked}
 use Rattle.synchronizer.proofs.Tests.{by_cases}
 use Rattle.synchronizer.proofs.TableLaws.{found-at}
 
@@ -341,7 +341,7 @@ commit-never-waits t b last = by_cases (ltb last b.round.0) (λ e. rw e (walk-ne
 -- ---- counting a walk
 
 -- what a walk comes to that goes on from a block, n blocks with it counted already
-abbrev add_walk : ℕ → Walk → Walked
+abbrev add_walk : ℕ → Walk → Count
 add_walk n (refused k) = record { answer = k; blocks = 0 }
 add_walk n (delivers bs) = record { answer = 0; blocks = n + length bs - 1 }
 
@@ -359,8 +359,8 @@ add-last : (n : ℕ) (b : Slot) → add_walk n (delivers (b ∷ [])) ≡ record 
 add-last n b = let k : n + 1 - 1 ≡ n = omega arith in λ i. record { answer = 0; blocks = k i }
 
 -- the walk from a block, by where it goes on
-abbrev by_next : Result (Option Slot) ℕ → Slot → Walk → Walk
-by_next (Err k) b w = refused k
+abbrev by_next : Result (Option Slot) Refusal → Slot → Walk → Walk
+by_next (Err k) b w = refused (code k)
 by_next (Ok None) b w = delivers (b ∷ [])
 by_next (Ok (Some p)) b w = and_newer w b
 
@@ -388,7 +388,7 @@ pub record Counts (t : List Slot) (b0 : Slot) (last : ℕ) (b : Slot) (n : ℕ) 
   pub few : n + below t b.round.0 ≤ suc (length t)
 
 module _ (t : List Slot) (b0 : Slot) (last : ℕ) where
-  pub counts-none : b0.round.0 ≤ last → ◌≡◌ {A = Walked} (record { answer = 0; blocks = 0 }) (count_of (commit_of t b0 last))
+  pub counts-none : b0.round.0 ≤ last → counted (Ok 0) ≡ count_of (commit_of t b0 last)
   unfolding commit_of
   counts-none h = rw (le-ltb _ _ h)
 
@@ -397,19 +397,19 @@ module _ (t : List Slot) (b0 : Slot) (last : ℕ) where
   counts-start h = record { meant = rw (lt-ltb _ _ h) (add-committed b0 last (walk_of t b0 last)); few = omega (arith, below-le t b0.round.0) }
 
   module _ (b : Slot) (n : ℕ) (k : Counts t b0 last b n) where
-    pub counts-near : b.round.0 ≤ last + 1 → ◌≡◌ {A = Walked} (record { answer = 0; blocks = n }) (count_of (commit_of t b0 last))
+    pub counts-near : b.round.0 ≤ last + 1 → counted (Ok n) ≡ count_of (commit_of t b0 last)
     counts-near h =
         let one : walk_of t b last ≡ delivers (b ∷ []) = rw (walk_step t b last, le-ltb _ _ h) in
         sym (add-last n b) ∙ ap (add_walk n) (sym one) ∙ k.meant
 
-    module _ (r : Result (Option Slot) ℕ) (h : last + 1 < b.round.0) (e : r ≡ next_walked b.round.0 last (parent_of t b)) where
+    module _ (r : Result (Option Slot) Refusal) (h : last + 1 < b.round.0) (e : r ≡ next_walked b.round.0 last (parent_of t b)) where
       goes : walk_of t b last ≡ by_next r b (walk_of t (slot_in (parent_of t b)) last)
       goes = rw (walk_step t b last, lt-ltb _ _ h, on-parent-next, e)
 
-      pub counts-refused : (a : ℕ) → r ≡ Err a → ◌≡◌ {A = Walked} (record { answer = a; blocks = 0 }) (count_of (commit_of t b0 last))
+      pub counts-refused : (a : Refusal) → r ≡ Err a → counted (Err a) ≡ count_of (commit_of t b0 last)
       counts-refused a is = sym (ap (add_walk n) (rw is at goes)) ∙ k.meant
 
-      pub counts-ends : r ≡ Ok None → ◌≡◌ {A = Walked} (record { answer = 0; blocks = n }) (count_of (commit_of t b0 last))
+      pub counts-ends : r ≡ Ok None → counted (Ok n) ≡ count_of (commit_of t b0 last)
       counts-ends is = sym (add-last n b) ∙ sym (ap (add_walk n) (rw is at goes)) ∙ k.meant
 
       module _ (p : Slot) (is : r ≡ Ok (Some p)) where

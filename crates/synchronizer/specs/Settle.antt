@@ -8,19 +8,24 @@
 --     processed_of t w       a block, before its caller asks for a parent
 --     wait_of w n            what is written where a block was answered n
 --     asking w s             a block's settlement s, and what is written where it waits
---     nothing, clear, block  what an event does: the numbers of `does`
+--     brought w              what the table is asked for where a block comes
+--     is_store k             whether a block comes
 --     settled_of t w         an event
 --     clean_most, settle_most n  the most bytes that are written before the COMMITs, and over a table of n slots
 --     RoomFor w n k          a buffer of k bytes has room for what is written over a table of n slots
 --     Settles d k before at r table after    code did what the settlement d says, in at most k bytes
-use Rattle.std.specs.Prelude.{◌≡◌, ℕ, ◌+◌, ◌*◌, ◌≤◌, Bool, cond, List, [], ◌∷◌, ◌++◌, map, eqb, ltb, length}
+use Rattle.std.specs.Prelude.{◌≡◌, ℕ, ◌+◌, ◌*◌, ◌≤◌, Bool, true, false, cond, List, [], ◌∷◌, ◌++◌, map, eqb, ltb, length, Result, Ok, Err}
 use Rattle.outputs.specs.Records.{Rec, commit, sync, clean_proposer, clean_mempool, commit_size, clean_proposer_size, clean_mempool_size}
 use Rattle.outputs.specs.Put.{Wrote}
 use Rattle.synchronizer.specs.declared.table.Slot.{Slot}
 use Rattle.synchronizer.specs.declared.ancestors.Ancestors.{Ancestors}
+use Rattle.synchronizer.specs.declared.settle.Task.{Task}
+use Rattle.synchronizer.specs.declared.settle.Task.TheVariants.{Nothing, Clear, Store}
 use Rattle.synchronizer.specs.declared.settle.Work.{Work}
+use Rattle.synchronizer.specs.declared.settle.Arrival.{Arrival}
 use Rattle.synchronizer.specs.declared.settle.Settled.{Settled}
-use Rattle.certificates.specs.Error.{wait_parent, table_full}
+use Rattle.certificates.specs.declared.error.Refusal.{Refusal}
+use Rattle.certificates.specs.Error.{wait_parent, table_full, code, number}
 use Rattle.synchronizer.specs.Table.{place_of, stored, cleared, ancestors_of}
 use Rattle.synchronizer.specs.Walk.{Commit, no_commit, commit_of}
 
@@ -59,40 +64,44 @@ linked_of t b b0 b1 last =
 -- ---- a block
 
 -- "Both stay as found here. Store, replacing an equal digest.", "28 | new digest, no empty slot". A block that is not stored writes nothing here.
-unfoldable pub processed_by : List Slot → Work → Ancestors → Settlement
-processed_by t w a =
-    cond (eqb a.answer 0)
-    (cond (ltb (place_of t w.block) (length t))
+unfoldable pub processed_by : List Slot → Arrival → Result Ancestors Refusal → Settlement
+processed_by t w (Ok a) =
+    cond (ltb (place_of t w.block) (length t))
     (linked_of (stored t w.block) w.block a.b0 a.b1 w.last.0)
-    (answered table_full t w.last.0 []))
-    (answered a.answer t w.last.0 [])
+    (answered table_full t w.last.0 [])
+processed_by t w (Err r) = answered (code r) t w.last.0 []
 
-abbrev pub processed_of : List Slot → Work → Settlement
+abbrev pub processed_of : List Slot → Arrival → Settlement
 processed_of t w = processed_by t w (ancestors_of t w.block)
 
 -- ---- a block that waits
 
 -- "if absent, SYNC and WAIT PARENT. b0 likewise from b1, but absent gives 30 and no SYNC"
-unfoldable pub wait_of : Work → ℕ → List Rec
+unfoldable pub wait_of : Arrival → ℕ → List Rec
 wait_of w n = cond (eqb n wait_parent) (sync w.block.parent w.block.digest w.author.0 ∷ []) []
 
 -- SYNC is written by who settles the event, behind what the block wrote
-abbrev pub asking : Work → Settlement → Settlement
+abbrev pub asking : Arrival → Settlement → Settlement
 asking w s = answered s.answer s.table s.last (s.outs ++ wait_of w s.answer)
 
 -- ---- an event
 
-abbrev pub nothing : ℕ
-nothing = 0
+abbrev pub brought : Arrival → Work
+brought w = record { task = Store w.block w.author; last = w.last; at = w.at }
 
-abbrev pub clear : ℕ
-clear = 1
+abbrev pub is_store : Task → Bool
+is_store Nothing = false
+is_store Clear = false
+is_store (Store b author) = true
 
-abbrev pub block : ℕ
-block = 2
+abbrev pub settled_by : List Slot → Work → Task → Settlement
+settled_by t w Nothing = answered 0 t w.last.0 []
+settled_by t w Clear = answered 0 (cleared t) w.last.0 []
+settled_by t w (Store b author) =
+    asking (record { block = b; author = author; last = w.last; at = w.at }) (processed_of t (record { block = b; author = author; last = w.last; at = w.at }))
 
 unfoldable pub settled_of : List Slot → Work → Settlement
-settled_of t w = cond (eqb w.does block) (asking w (processed_of t w)) (cond (eqb w.does clear) (answered 0 (cleared t) w.last.0 []) (answered 0 t w.last.0 []))
+settled_of t w = settled_by t w w.task
 
 -- ---- what code did
 
@@ -103,10 +112,10 @@ abbrev pub settle_most : ℕ → ℕ
 settle_most n = clean_most + commit_size * n
 
 abbrev pub RoomFor : Work → ℕ → ℕ → Type 0
-RoomFor w n k = w.does ≡ block → w.at + settle_most n ≤ k
+RoomFor w n k = is_store w.task ≡ true → w.at + settle_most n ≤ k
 
 pub record Settles (d : Settlement) (k : ℕ) (before : List ℕ) (at : ℕ) (r : Settled) (table : List Slot) (after : List ℕ) : Type 0 where
-  pub answer : r.answer ≡ d.answer
+  pub answer : number r.answer ≡ d.answer
   pub last : r.last.0 ≡ d.last
   pub slots : table ≡ d.table
   pub bytes : Wrote k d.outs before at after r.at

@@ -12,15 +12,19 @@
 --     found_at t i           the slot that was found at place i, and none past the end
 --     parent_of t b          the parent of the block b
 --     slot_in p              the block that was found, and the blank slot where none was
---     ancestors_of t b       the parent b1 and the grandparent b0 of the block b
-use Rattle.std.specs.Prelude.{ℕ, suc, Bool, true, false, not, cond, List, [], ◌∷◌, ltb, length, get_or, set, replicate, Option, Some, None, is_some, unwrap_or, position}
+--     b1_of t b, b0_of t b   the parent and the grandparent of the block b, and the blank slot where there is none
+--     ancestors_of t b       both, or why there are not both
+--     found_number a         the number that says whether there are
+use Rattle.std.specs.Prelude.{ℕ, suc, Bool, true, false, not, cond, List, [], ◌∷◌, ltb, length, get_or, set, replicate, Option, Some, None, unwrap_or, position, Result, Ok, Err}
 use Rattle.certificates.specs.Numbers.{zero_hash, same_hash}
 use Rattle.certificates.specs.Messages.{is_genesis}
 use Rattle.synchronizer.specs.declared.table.Slot.{Slot}
 use Rattle.synchronizer.specs.declared.table.Want.{Want}
 use Rattle.synchronizer.specs.declared.table.Want.TheVariants.{Any, Free, Digest}
 use Rattle.synchronizer.specs.declared.ancestors.Ancestors.{Ancestors}
-use Rattle.certificates.specs.Error.{wait_parent, table_full, ancestor_absent}
+use Rattle.certificates.specs.declared.error.Refusal.{Refusal}
+use Rattle.certificates.specs.declared.error.Refusal.TheVariants.{WaitParent, AncestorAbsent}
+use Rattle.certificates.specs.Error.{done, table_full, code}
 
 -- "a dropped one becomes all zeros"
 abbrev pub blank : Slot
@@ -77,9 +81,21 @@ parent_of t b = cond (is_genesis b.parent b.parent_round.0) (Some genesis) (foun
 abbrev pub slot_in : Option Slot → Slot
 slot_in p = unwrap_or p blank
 
--- "if absent, SYNC and WAIT PARENT. b0 likewise from b1, but absent gives 30 and no SYNC; genesis is its own parent."
-abbrev pub ancestors_by : Option Slot → Option Slot → Ancestors
-ancestors_by p1 p0 = record { answer = cond (is_some p1) (cond (is_some p0) 0 ancestor_absent) wait_parent; b0 = slot_in p0; b1 = slot_in p1 }
+abbrev pub b1_of : List Slot → Slot → Slot
+b1_of t b = slot_in (parent_of t b)
 
-unfoldable pub ancestors_of : List Slot → Slot → Ancestors
-ancestors_of t b = ancestors_by (parent_of t b) (parent_of t (slot_in (parent_of t b)))
+abbrev pub b0_of : List Slot → Slot → Slot
+b0_of t b = slot_in (parent_of t (b1_of t b))
+
+-- "if absent, SYNC and WAIT PARENT. b0 likewise from b1, but absent gives 30 and no SYNC; genesis is its own parent."
+abbrev pub ancestors_by : Option Slot → Option Slot → Result Ancestors Refusal
+ancestors_by None p0 = Err WaitParent
+ancestors_by (Some b1) None = Err AncestorAbsent
+ancestors_by (Some b1) (Some b0) = Ok (record { b0 = b0; b1 = b1 })
+
+unfoldable pub ancestors_of : List Slot → Slot → Result Ancestors Refusal
+ancestors_of t b = ancestors_by (parent_of t b) (parent_of t (b1_of t b))
+
+abbrev pub found_number : Result Ancestors Refusal → ℕ
+found_number (Ok a) = done
+found_number (Err r) = code r

@@ -3,14 +3,12 @@ ghost use Rattle.std.specs.Prelude.{◌≡◌};
 ghost use Rattle.synchronizer.specs.Table.{genesis, parent_of, ancestors_of};
 
 use crate::table::{Slot, Want, empty, find, slot_at};
-use certificates::error::{ANCESTOR_ABSENT, DONE, WAIT_PARENT};
+use certificates::error::Refusal;
 use certificates::messages::is_genesis;
 
-// `b0 <- |qc0; b1| <- |qc1; block|`. The answer is 0, 2 where b1 is absent, or 30 where b0 is. An
-// absent block is an empty slot, whose parent is genesis.
-#[derive(Clone, Copy)]
+// `b0 <- |qc0; b1| <- |qc1; block|`.
+#[derive(Clone, Copy, Debug, PartialEq, Eq)]
 pub struct Ancestors {
-    pub answer: u16,
     pub b0: Slot,
     pub b1: Slot,
 }
@@ -36,27 +34,11 @@ pub fn get_parent_block(table: &[Slot], block: Slot) -> Option<Slot>
     Some(slot_at(table, i))
 }
 
-// The block's parent b1 and grandparent b0.
-pub fn get_ancestors(table: &[Slot], block: Slot) -> Ancestors
+// The block's parent b1 and grandparent b0. It answers 2 where b1 is absent, and 30 where b0 is.
+pub fn get_ancestors(table: &[Slot], block: Slot) -> Result<Ancestors, Refusal>
     ensures { result ≡ ancestors_of table.now block }
 {
-    let Some(b1) = get_parent_block(table, block) else {
-        return Ancestors {
-            answer: WAIT_PARENT,
-            b0: genesis_block(),
-            b1: empty(),
-        };
-    };
-    let Some(b0) = get_parent_block(table, b1) else {
-        return Ancestors {
-            answer: ANCESTOR_ABSENT,
-            b0: empty(),
-            b1,
-        };
-    };
-    Ancestors {
-        answer: DONE,
-        b0,
-        b1,
-    }
+    let b1 = get_parent_block(table, block).ok_or(Refusal::WaitParent)?;
+    let b0 = get_parent_block(table, b1).ok_or(Refusal::AncestorAbsent)?;
+    Ok(Ancestors { b0, b1 })
 }

@@ -5,26 +5,19 @@ ghost use Rattle.outputs.specs.Records.{commit_size};
 ghost use Rattle.outputs.specs.Put.{Wrote};
 ghost use Rattle.synchronizer.specs.Walk.{commit_of, chain_of};
 ghost use Rattle.synchronizer.specs.Settle.{commit_rec};
-ghost use Rattle.synchronizer.specs.Parts.{next_walked, count_of};
+ghost use Rattle.synchronizer.specs.Parts.{next_walked, counted, count_of};
 
 use crate::ancestors::get_parent_block;
 use crate::table::{Slot, empty};
-use certificates::error::{ANCESTOR_ABSENT, DONE, ROUND_NOT_BELOW};
+use certificates::error::Refusal;
 use certificates::numbers::Round;
 use outputs::records::put_commit;
 
 // The bytes of a COMMIT, its length field included.
 pub const COMMIT_SIZE: usize = 44;
 
-// What a walk found: 0 and how many blocks are delivered, or 30 or 31 and none.
-#[derive(Clone, Copy)]
-pub struct Walked {
-    pub answer: u16,
-    pub blocks: usize,
-}
-
 // COMMITs that are still to be written: how many, the place of the oldest, and the newest block.
-#[derive(Clone, Copy)]
+#[derive(Clone, Copy, Debug, PartialEq, Eq)]
 pub struct Chain {
     pub left: usize,
     pub at: usize,
@@ -44,14 +37,12 @@ pub(crate) fn next_walked(
     child: Slot,
     parent: Option<Slot>,
     last: Round,
-) -> Result<Option<Slot>, u16>
+) -> Result<Option<Slot>, Refusal>
     ensures { result ≡ next_walked child.round.0 last.0 parent }
 {
-    let Some(block) = parent else {
-        return Err(ANCESTOR_ABSENT);
-    };
+    let block = parent.ok_or(Refusal::AncestorAbsent)?;
     if child.round.0 <= block.round.0 {
-        return Err(ROUND_NOT_BELOW);
+        return Err(Refusal::RoundNotBelow);
     }
     if block.round.0 <= last.0 {
         return Ok(None);
@@ -61,31 +52,22 @@ pub(crate) fn next_walked(
 
 // How many blocks a commit of b0 delivers. Where b0 is at or below the last committed round it
 // delivers nothing.
-pub fn count_walk(table: &[Slot], b0: Slot, last: Round) -> Walked
-    ensures { result ≡ count_of (commit_of table.now b0 last.0) }
+pub fn count_walk(table: &[Slot], b0: Slot, last: Round) -> Result<usize, Refusal>
+    ensures { counted result ≡ count_of (commit_of table.now b0 last.0) }
 {
     if b0.round.0 <= last.0 {
-        return Walked {
-            answer: DONE,
-            blocks: 0,
-        };
+        return Ok(0);
     }
     let mut block = b0;
     let mut blocks = 1;
     while is_above_next(block.round, last) {
-        match next_walked(block, get_parent_block(table, block), last) {
-            Ok(Some(parent)) => {
-                block = parent;
-                blocks += 1;
-            }
-            Ok(None) => break,
-            Err(answer) => return Walked { answer, blocks: 0 },
-        }
+        let Some(parent) = next_walked(block, get_parent_block(table, block), last)? else {
+            break;
+        };
+        block = parent;
+        blocks += 1;
     }
-    Walked {
-        answer: DONE,
-        blocks,
-    }
+    Ok(blocks)
 }
 
 // Writes the COMMITs of a chain, found newest first, at falling places. An absent parent is an empty

@@ -1,54 +1,57 @@
 // What an event does with the block table: nothing, START's clear, or a block (core.rs's
 // process_block, up to the vote).
-ghost use Rattle.std.specs.Prelude.{◌+◌, ◌*◌, ◌≤◌, ◌<◌, ◌^◌, ◌≡◌, length, eqb};
-ghost use Rattle.outputs.specs.Records.{commit_size};
+ghost use Rattle.std.specs.Prelude.{◌+◌, ◌*◌, ◌≤◌, ◌≡◌, length, eqb};
 ghost use Rattle.outputs.specs.Put.{Wrote};
-ghost use Rattle.synchronizer.specs.Settle.{is_two_chain, clean_of, processed_of, settled_of, clean_most, settle_most, RoomFor, Settles};
-ghost use Rattle.synchronizer.specs.Parts.{Admits, to_commit, committed_of, CommitsFit, Heads, settled_by, RoomToAsk, Asks};
+ghost use Rattle.synchronizer.specs.Settle.{is_two_chain, clean_of, commit_if, linked_of, processed_of, settled_of, clean_most, settle_most, RoomFor, Settles};
+ghost use Rattle.synchronizer.specs.Parts.{counted, count_of, Admits, CommitsFit, RoomToAsk, Asks};
 
-use crate::ancestors::{Ancestors, genesis_block, get_ancestors};
-use crate::commit::{COMMIT_SIZE, Chain, Walked, count_walk, write_commits};
+use crate::ancestors::{Ancestors, get_ancestors};
+use crate::commit::{COMMIT_SIZE, Chain, count_walk, write_commits};
 use crate::table::{Slot, clear, store};
-use certificates::error::{DONE, WAIT_PARENT};
+use certificates::error::{Answer, Refusal};
 use certificates::numbers::{Place, Round};
 use outputs::records::{put_clean_mempool, put_clean_proposer, put_sync};
 
-// What an event does with the table: it clears it, it brings a block, or it does nothing.
-pub const NOTHING: u8 = 0;
+// What an event does with the table: nothing, it clears it, or it brings a block of this author.
+#[derive(Clone, Copy, Debug, PartialEq, Eq)]
+pub enum Task {
+    Nothing,
+    Clear,
+    Store { block: Slot, author: Place },
+}
 
-pub const CLEAR: u8 = 1;
-
-pub const BLOCK: u8 = 2;
-
-// What is to be done, `does` being one of the numbers above; any other does nothing. The block and its
-// author, the last committed round, and the place that outputs are written from.
-#[derive(Clone, Copy)]
+// What is to be done, the last committed round, and the place that outputs are written from.
+#[derive(Clone, Copy, Debug, PartialEq, Eq)]
 pub struct Work {
-    pub does: u8,
-    pub block: Slot,
-    pub author: Place,
+    pub task: Task,
     pub last: Round,
     pub at: usize,
+}
+
+// A block that comes to the table, and what Work says beside it.
+#[derive(Clone, Copy, Debug, PartialEq, Eq)]
+pub(crate) struct Arrival {
+    pub(crate) block: Slot,
+    pub(crate) author: Place,
+    pub(crate) last: Round,
+    pub(crate) at: usize,
 }
 
 // The answer, the last committed round, and the place after the outputs.
-#[derive(Clone, Copy)]
+#[derive(Clone, Copy, Debug, PartialEq, Eq)]
 pub struct Settled {
-    pub answer: u16,
+    pub answer: Answer,
     pub last: Round,
     pub at: usize,
 }
 
-// A block's ancestors, and then its store. It answers 0, or why the block is not stored.
-pub fn admit(table: &mut [Slot], block: Slot) -> Ancestors
+// A block's ancestors, and then its store, or why the block is not stored.
+pub fn admit(table: &mut [Slot], block: Slot) -> Result<Ancestors, Refusal>
     ensures { Admits table.old block result table.new }
 {
-    let a = get_ancestors(table, block);
-    if a.answer != DONE {
-        return a;
-    }
-    let answer = store(table, block);
-    Ancestors { answer, ..a }
+    let a = get_ancestors(table, block)?;
+    store(table, block)?;
+    Ok(a)
 }
 
 // Whether the second round is the first plus 1, which never wraps.
@@ -66,20 +69,19 @@ pub(crate) fn is_two_chain(a: Ancestors) -> bool
     is_next(a.b0.round, a.b1.round)
 }
 
-// The block that is committed: b0 where the block is stored and b1 is of the next round, else genesis,
-// which never is.
-pub(crate) fn to_commit(a: Ancestors) -> Slot
-    ensures { result ≡ to_commit a }
+// How many blocks a stored block commits: none where b1 is not of the round after b0's.
+pub(crate) fn count_commit(table: &[Slot], a: Ancestors, last: Round) -> Result<usize, Refusal>
+    ensures { counted result ≡ count_of (commit_if table.now a.b0 a.b1 last.0) }
 {
-    if a.answer == DONE && is_two_chain(a) {
-        a.b0
+    if is_two_chain(a) {
+        count_walk(table, a.b0, last)
     } else {
-        genesis_block()
+        Ok(0)
     }
 }
 
 // CLEAN PROPOSER, and CLEAN MEMPOOL where b0 is to be committed.
-pub(crate) fn write_clean(out: &mut [u8], w: Work, a: Ancestors) -> usize
+pub(crate) fn write_clean(out: &mut [u8], w: Arrival, a: Ancestors) -> usize
     requires { w.at + clean_most ≤ length out.old }
     ensures { Wrote clean_most (clean_of a.b0 a.b1 w.block) out.old w.at out.new result }
 {
@@ -90,72 +92,54 @@ pub(crate) fn write_clean(out: &mut [u8], w: Work, a: Ancestors) -> usize
     mid
 }
 
-// Writes what comes before the COMMITs of a stored block: the cleanup. Of a block that is not stored it
-// writes nothing. It answers the chain of the COMMITs.
-pub(crate) fn write_head(out: &mut [u8], w: Work, a: Ancestors, c: Walked) -> Chain
-    requires { w.at + clean_most ≤ length out.old }
-    ensures { Heads w a c out.old result out.new }
+// What follows the store: cleanup, and the commit of b0, from the table as it is now and b0 as it was
+// found before. A walk that is refused commits nothing.
+pub(crate) fn commit(table: &[Slot], out: &mut [u8], w: Arrival, a: Ancestors) -> Settled
+    requires { CommitsFit table.now w a (length out.old) }
+    ensures { Settles (linked_of table.now w.block a.b0 a.b1 w.last.0) (settle_most (length table.now)) out.old w.at result table.now out.new }
 {
-    let at = if a.answer == DONE {
-        write_clean(out, w, a)
-    } else {
-        w.at
-    };
-    Chain {
-        left: c.blocks,
-        at,
-        block: a.b0,
-    }
-}
-
-// How a block is settled, once its COMMITs are written.
-pub(crate) fn settled_by(w: Work, a: Ancestors, c: Walked, t: Chain) -> Settled
-    requires { t.at + commit_size * t.left < 2 ^ 64 }
-    ensures { result ≡ settled_by w a c t }
-{
-    let at = t.at + COMMIT_SIZE * t.left;
-    if a.answer != DONE {
-        return Settled {
-            answer: a.answer,
+    let count = count_commit(table, a, w.last);
+    let at = write_clean(out, w, a);
+    match count {
+        Ok(left) => {
+            let block = a.b0;
+            write_commits(table, out, Chain { left, at, block });
+            Settled {
+                answer: Ok(()),
+                last: if 0 < left { block.round } else { w.last },
+                at: at + COMMIT_SIZE * left,
+            }
+        }
+        Err(refusal) => Settled {
+            answer: Err(refusal),
             last: w.last,
             at,
-        };
-    }
-    Settled {
-        answer: c.answer,
-        last: if 0 < c.blocks { t.block.round } else { w.last },
-        at,
+        },
     }
 }
 
-// What follows the store: cleanup, and the commit of b0, from the table as it is now and b0 as it was
-// found before. Of a block that is not stored nothing is written.
-pub(crate) fn commit(table: &[Slot], out: &mut [u8], w: Work, a: Ancestors) -> Settled
-    requires { CommitsFit table.now w a (length out.old) }
-    ensures { Settles (committed_of table.now w a) (settle_most (length table.now)) out.old w.at result table.now out.new }
-{
-    let c = count_walk(table, to_commit(a), w.last);
-    let t = write_head(out, w, a, c);
-    write_commits(table, out, t);
-    settled_by(w, a, c, t)
-}
-
-// A block: its ancestors, the store, cleanup and commit. Where the parent is absent it answers WAIT
-// PARENT and writes nothing.
-pub(crate) fn process_block(table: &mut [Slot], out: &mut [u8], w: Work) -> Settled
+// A block: its ancestors, the store, cleanup and commit. Of a block that is not stored nothing is
+// written.
+pub(crate) fn process_block(table: &mut [Slot], out: &mut [u8], w: Arrival) -> Settled
     requires { w.at + settle_most (length table.old) ≤ length out.old }
     ensures { Settles (processed_of table.old w) (settle_most (length table.old)) out.old w.at result table.new out.new }
 {
-    let a = admit(table, w.block);
-    commit(table, out, w, a)
+    match admit(table, w.block) {
+        Ok(a) => commit(table, out, w, a),
+        Err(refusal) => Settled {
+            answer: Err(refusal),
+            last: w.last,
+            at: w.at,
+        },
+    }
 }
 
 // SYNC, where a block waits for its parent. Any other settlement stays as it is.
-pub(crate) fn ask_parent(out: &mut [u8], w: Work, s: Settled) -> Settled
+pub(crate) fn ask_parent(out: &mut [u8], w: Arrival, s: Settled) -> Settled
     requires { RoomToAsk s (length out.old) }
     ensures { Asks w s out.old result out.new }
 {
-    if s.answer == WAIT_PARENT {
+    if s.answer == Err(Refusal::WaitParent) {
         let at = put_sync(out, s.at, w.block.parent, w.block.digest, w.author);
         return Settled { at, ..s };
     }
@@ -168,16 +152,24 @@ pub fn settle(table: &mut [Slot], out: &mut [u8], w: Work) -> Settled
     requires { RoomFor w (length table.old) (length out.old) }
     ensures { Settles (settled_of table.old w) (settle_most (length table.old)) out.old w.at result table.new out.new }
 {
-    if w.does == BLOCK {
-        let s = process_block(table, out, w);
-        return ask_parent(out, w, s);
-    }
-    if w.does == CLEAR {
-        clear(table);
+    let Work { task, last, at } = w;
+    match task {
+        Task::Nothing => {}
+        Task::Clear => clear(table),
+        Task::Store { block, author } => {
+            let arrival = Arrival {
+                block,
+                author,
+                last,
+                at,
+            };
+            let s = process_block(table, out, arrival);
+            return ask_parent(out, arrival, s);
+        }
     }
     Settled {
-        answer: DONE,
-        last: w.last,
-        at: w.at,
+        answer: Ok(()),
+        last,
+        at,
     }
 }

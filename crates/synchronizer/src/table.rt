@@ -1,14 +1,15 @@
 // The block table: what stands at a place, what a scan finds, a store, and the clear of START.
 ghost use Rattle.std.specs.Prelude.{◌≡◌, length, set};
+ghost use Rattle.certificates.specs.Error.{number};
 ghost use Rattle.synchronizer.specs.Table.{blank, slot_at, fits, found_in, place_of, stored, store_answer, cleared};
 
-use certificates::error::{DONE, TABLE_FULL};
+use certificates::error::{Answer, Refusal};
 use certificates::numbers::{Hash, Round};
 
 // A block as it is kept. A slot that is not used holds nothing. It is laid out as in C: a host lends
 // slices of it.
 #[repr(C)]
-#[derive(Clone, Copy)]
+#[derive(Clone, Copy, Debug, PartialEq, Eq)]
 pub struct Slot {
     pub used: bool,
     pub digest: Hash,
@@ -18,7 +19,7 @@ pub struct Slot {
 }
 
 // What a scan looks for: any slot at all, a free one, or a used one with this digest.
-#[derive(Clone, Copy)]
+#[derive(Clone, Copy, Debug, PartialEq, Eq)]
 pub enum Want {
     Any,
     Free,
@@ -90,13 +91,13 @@ pub fn clear(table: &mut [Slot])
 
 // Stores a block in place of the one with its digest, or in the lowest free slot. Where there is
 // neither, it answers 28 and nothing changes.
-pub fn store(table: &mut [Slot], block: Slot) -> u16
-    ensures { (result ≡ store_answer (place_of table.old block) (length table.old)) × (table.new ≡ stored table.old block) }
+pub fn store(table: &mut [Slot], block: Slot) -> Answer
+    ensures { (number result ≡ store_answer (place_of table.old block) (length table.old)) × (table.new ≡ stored table.old block) }
 {
     let same = find(table, Want::Digest(block.digest));
-    let Some(i) = same.or_else(|| find(table, Want::Free)) else {
-        return TABLE_FULL;
-    };
+    let i = same
+        .or_else(|| find(table, Want::Free))
+        .ok_or(Refusal::TableFull)?;
     put_at(table, i, block);
-    DONE
+    Ok(())
 }

@@ -1,6 +1,7 @@
 -- `synchronizer::commit::count_walk` meets its contract: a law for each way out, and for one parent more.
 -- Assumes nothing.
 use Rattle.std.proofs.Common.{rules, ◌≡◌, ◌+◌, ◌<◌, Ok, sym, ◌∙◌, ap}
+use Rattle.std.proofs.lemmas.Result.{err_from_is_err_and}
 use borrow.Author.Tests.{ltb-true, ltb-false}
 use Rattle.synchronizer.specs.Table.{parent_of}
 use Rattle.synchronizer.specs.Parts.{next_walked}
@@ -24,22 +25,23 @@ next c = rw (← c.get_parent_block.ensures) c.next_walked.ensures
 pub loop-last-preserved : goal.loop-last-preserved
 loop-last-preserved c =
     let at = (goal.at.loop-last-preserved c).After-next_walked in
-    counts-more _ _ _ _ _ c.loop-last.invariant _ (above at) (next at) _ (c.in-Ok-Some.is ∙ ap Ok c.in-Ok-Some.field-0-is)
+    counts-more _ _ _ _ _ c.loop-last.invariant _ (above at) (next at) _ (c.in_ok-parent.was ∙ ap Ok c.in-Some.is)
 
 pub loop-last-smaller : goal.loop-last-smaller
 loop-last-smaller c =
     let at = (goal.at.loop-last-smaller c).After-next_walked in
-    counts-falls _ _ _ _ _ c.loop-last.invariant _ (above at) (next at) _ (c.in-Ok-Some.is ∙ ap Ok c.in-Ok-Some.field-0-is)
+    counts-falls _ _ _ _ _ c.loop-last.invariant _ (above at) (next at) _ (c.in_ok-parent.was ∙ ap Ok c.in-Some.is)
 
-pub returns-in-Err : goal.returns-in-Err
-returns-in-Err c =
-    let at = (goal.at.returns-in-Err c).After-next_walked in
-    counts-refused _ _ _ _ _ c.loop-last.invariant _ (above at) (next at) _ c.in-Err.is
+pub returns-in_err-parent : goal.returns-in_err-parent
+returns-in_err-parent c =
+    let at = (goal.at.returns-in_err-parent c).After-next_walked in
+    let p = err_from_is_err_and c.from_residual.result c.from_residual.ensures.1 in
+    rw (p.1, p.2) (counts-refused _ _ _ _ _ c.loop-last.invariant _ (above at) (next at) _ c.in_err-parent.was)
 
-pub returns-in-Ok-None : goal.returns-in-Ok-None
-returns-in-Ok-None c =
-    let at = (goal.at.returns-in-Ok-None c).After-next_walked in
-    counts-ends _ _ _ _ _ c.loop-last.invariant _ (above at) (next at) (c.in-Ok-None.is ∙ ap Ok c.in-Ok-None.field-0-is)
+pub returns-in_default : goal.returns-in_default
+returns-in_default c =
+    let at = (goal.at.returns-in_default c).After-next_walked in
+    counts-ends _ _ _ _ _ c.loop-last.invariant _ (above at) (next at) (c.in_ok-parent.was ∙ ap Ok c.in_default.is)
 
 pub returns-after-loop-last : goal.returns-after-loop-last
 returns-after-loop-last c = counts-near _ _ _ _ _ c.loop-last.invariant (ltb-false _ _ (sym c.is_above_next.ensures ∙ c.loop-last-test.false))

@@ -1,10 +1,11 @@
--- `synchronizer::settle::admit` meets its contract: a law for each way out.
+-- `synchronizer::settle::admit` meets its contract, where the store is refused too.
 -- Assumes nothing.
-use Rattle.synchronizer.proofs.SettleLaws.{admit-short, admit-store}
+use Rattle.std.proofs.Common.{sym, ◌∙◌}
+use Rattle.std.proofs.lemmas.Result.{err_from_is_err_and}
+use Rattle.synchronizer.proofs.SettleLaws.{admit-full}
 use Rattle.synchronizer.proofs.settle.admit.Goals as goal
 
-pub returns-then-a-ne-DONE : goal.returns-then-a-ne-DONE
-returns-then-a-ne-DONE c = admit-short _ _ c.get_ancestors-a.ensures c.if-a-ne-DONE.true
-
-pub returns : goal.returns
-returns c = admit-store _ _ c.get_ancestors-a.ensures c.if-a-ne-DONE.false c.store-answer.ensures
+pub returns-in_err-store : goal.returns-in_err-store
+returns-in_err-store c =
+    let p = err_from_is_err_and c.from_residual-in_err-store.result c.from_residual-in_err-store.ensures.1 in
+    rw (p.1, p.2) (admit-full _ _ (sym c.get_ancestors.ensures ∙ c.in_ok-a.was) c.in_err-store.ensures)

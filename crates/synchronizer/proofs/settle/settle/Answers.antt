@@ -1,19 +1,17 @@
--- `synchronizer::settle::settle` meets its contract: a law for each way out.
+-- `synchronizer::settle::settle` meets its contract: a law for each task.
 -- Assumes nothing.
-use Rattle.std.proofs.Common.{arith}
-use Rattle.synchronizer.proofs.SettleLaws.{ask-room, ask-done, settle-block, settle-clear, settle-idle}
+use Rattle.std.proofs.Common.{arith, refl}
+use Rattle.synchronizer.proofs.SettleLaws.{ask-room, ask-done, settle-store, settle-clear, settle-idle}
 use Rattle.synchronizer.proofs.settle.settle.Goals as goal
-use Rattle.synchronizer.proofs.settle.settle.Goals.{then-w-eq-CLEAR, else-w-eq-CLEAR}
 
 pub ask_parent-requires : goal.ask_parent-requires
-ask_parent-requires c = ask-room c.args.table.now c.args.w c.process_block-s.ensures (c.requires c.if-w-eq-BLOCK.true) (omega arith)
+ask_parent-requires c = ask-room c.args.table.now _ c.process_block-s.ensures (c.requires (rw c.in-Store.is refl)) (omega arith)
 
-pub returns-then-w-eq-BLOCK : goal.returns-then-w-eq-BLOCK
-returns-then-w-eq-BLOCK c = settle-block c.args.table.now c.args.w c.if-w-eq-BLOCK.true (ask-done c.args.table.now c.args.w c.process_block-s.ensures c.ask_parent.ensures)
+pub returns-in-Store : goal.returns-in-Store
+returns-in-Store c = settle-store c.args.table.now c.args.w c.in-Store.is (ask-done c.args.table.now _ c.process_block-s.ensures c.ask_parent.ensures)
 
-pub returns : goal.returns
-returns c =
-    elim c.if-w-eq-CLEAR.branch [
-      | then-w-eq-CLEAR w ↦ rw w.table-is (settle-clear c.args.table.now c.args.w c.args.out.now w.if-w-eq-CLEAR.true w.clear.ensures)
-      | else-w-eq-CLEAR w ↦ rw w.table-is (settle-idle c.args.table.now c.args.w c.args.out.now c.if-w-eq-BLOCK.false w.if-w-eq-CLEAR.false)
-    ]
+pub returns-in-Nothing : goal.returns-in-Nothing
+returns-in-Nothing c = settle-idle c.args.table.now c.args.w c.args.out.now c.in-Nothing.is
+
+pub returns-in-Clear : goal.returns-in-Clear
+returns-in-Clear c = settle-clear c.args.table.now c.args.w c.args.out.now c.in-Clear.is c.clear.ensures

@@ -1,6 +1,7 @@
 -- `synchronizer::table::store` meets its contract: a law for each way out.
 -- Assumes nothing.
-use Rattle.std.proofs.Common.{◌≡◌, rules}
+use Rattle.std.proofs.Common.{◌≡◌, rules, sym, ◌∙◌}
+use Rattle.std.proofs.lemmas.Result.{err_from_is_err_and}
 use Rattle.std.specs.Option.{option_or}
 use Rattle.synchronizer.specs.Table.{found_in}
 use Rattle.synchronizer.specs.declared.table.Want.TheVariants.{Free, Digest}
@@ -17,7 +18,9 @@ place c =
     (λ x e. let h = rw e at c.or_else.ensures in search rules))
 
 pub returns : goal.returns
-returns c = store-some c.args.table.now c.args.block (place (goal.at.returns c).After-or_else) c.in-Some.is c.put_at.ensures
+returns c = store-some c.args.table.now c.args.block (place (goal.at.returns c).After-or_else) (sym c.ok_or.ensures.value ∙ c.in_ok-i.was) c.put_at.ensures
 
-pub returns-in_default : goal.returns-in_default
-returns-in_default c = store-none c.args.table.now c.args.block (place (goal.at.returns-in_default c).After-or_else) c.in_default.is
+pub returns-in_err-i : goal.returns-in_err-i
+returns-in_err-i c =
+    let p = err_from_is_err_and c.from_residual.result c.from_residual.ensures.1 in
+    rw (p.1, p.2) (store-none c.args.table.now c.args.block (place (goal.at.returns-in_err-i c).After-or_else) (sym c.ok_or.ensures.value ∙ c.in_err-i.was))
