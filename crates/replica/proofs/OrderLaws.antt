@@ -15,6 +15,7 @@ use Rattle.moves.specs.State.{State}
 use Rattle.synchronizer.specs.declared.table.Slot.{Slot}
 use Rattle.synchronizer.specs.declared.settle.Work.{Work}
 use Rattle.synchronizer.specs.declared.settle.Settled.{Settled}
+use Rattle.replica.specs.declared.stages.Does.{Does}
 use Rattle.replica.specs.declared.started.Seat.{Seat}
 use Rattle.replica.specs.declared.stages.Begun.{Begun}
 use Rattle.replica.specs.declared.stages.Stepped.{Stepped}
@@ -36,7 +37,7 @@ module _ {part r : List ℕ} (e : part ≡ r) where
       → Finishable b s part stakes votes timeouts out
   finish-part-needs p = rw e p
 
-  pub finish-part : (m : List ℕ) (own : ℕ) (s : State) (does answer settled last : ℕ) {k at : ℕ} {seat : Seat} {before votes timeouts after : List ℕ} {x : Stepped}
+  pub finish-part : (m : List ℕ) (own : ℕ) (s : State) (does : Does) (answer settled last : ℕ) {k at : ℕ} {seat : Seat} {before votes timeouts after : List ℕ} {x : Stepped}
       → Finishes (finished_of m own s does answer settled last (block_of part)) k seat before at x votes timeouts after
       → Finishes (finished_of m own s does answer settled last (block_of r)) k seat before at x votes timeouts after
   finish-part m own s does answer settled last p = rw (← e) p

@@ -45,13 +45,14 @@ use Rattle.handlers.specs.Votes.{vote_check, may_vote, handled_vote, own_vote, v
 use Rattle.handlers.specs.Timeouts.{timeout_check, stale_if, timeout_taken, timeout_with, handled_timeout, tc_taken, tc_with, handled_tc, own_timeout, handled_tick, handle_timeout_most, handle_tc_most, local_timeout_most}
 use Rattle.handlers.specs.Proposals.{Proposal, proposal_check, advanced_tc, taken, by_payload, proposal_with, proposal_of, taken_most}
 use Rattle.synchronizer.specs.declared.table.Slot.{Slot}
+use Rattle.synchronizer.specs.declared.settle.Task.{Task}
+use Rattle.synchronizer.specs.declared.settle.Arrival.{Arrival}
 use Rattle.synchronizer.specs.declared.settle.Work.{Work}
-use Rattle.synchronizer.specs.Table.{place_of, ancestors_of}
-use Rattle.synchronizer.specs.Settle as settle
-use Rattle.synchronizer.specs.Settle.{is_two_chain, clean_of, commit_if, commit_rec, linked_of, wait_of, asking, processed_by, processed_of, settled_of, clean_most, settle_most}
+use Rattle.synchronizer.specs.Table.{place_of, ancestors_of, found_number}
+use Rattle.synchronizer.specs.Settle.{is_two_chain, clean_of, commit_if, commit_rec, linked_of, wait_of, asking, processed_of, settled_by, settled_of, clean_most, settle_most}
 use Rattle.synchronizer.proofs.Tests.{by_cases}
 use Rattle.synchronizer.proofs.TableLaws.{cleared-length}
-use Rattle.synchronizer.proofs.SettleLaws.{commits-fit, processed-waits, wait-none, settled-length, settled-silent, settled-block}
+use Rattle.synchronizer.proofs.SettleLaws.{commits-fit, processed-waits, wait-none, processed-is, settled-length}
 use Rattle.replica.specs.Started.{room_for, roomy}
 use Rattle.replica.specs.Blocks.{settled_for, after_settled, processed, processed_table, going_on, going_on_table}
 use Rattle.replica.specs.Step.{World, announced, begun_by, begun, committee, handled, started, sized_in, on_start, on_other, on_kind, stepped, announced_most}
@@ -237,21 +238,21 @@ linked-size t b b0 b1 last n h =
     size-both (clean_of b0 b1 b) (map commit_rec (commit_if t b0 b1 last).blocks) clean_most (commit_size * n) (clean-size b0 b1 b)
     (rw (commits-size (commit_if t b0 b1 last).blocks) (omega arith))
 
-processed-size : (t : List Slot) (w : Work) → size (processed_of t w).outs ≤ settle_most (length t)
-unfolding processed_by
+processed-size : (t : List Slot) (w : Arrival) → size (processed_of t w).outs ≤ settle_most (length t)
 processed-size t w =
-    by_cases (eqb (ancestors_of t w.block).answer 0)
+    rw (processed-is t w)
+    (by_cases (eqb (found_number (ancestors_of t w.block)) 0)
     (λ e. by_cases (ltb (place_of t w.block) (length t))
     (λ f. rw (e, f) (linked-size _ _ _ _ _ (length t) (commits-fit t w.block w.last.0 (eqb-true _ _ e))))
     (λ f. rw (e, f) (size_none (settle_most (length t)))))
-    (λ e. rw e (size_none (settle_most (length t))))
+    (λ e. rw e (size_none (settle_most (length t)))))
 
 -- where a block waits, SYNC is all that is written
-wait-size : (w : Work) → size (wait_of w wait_parent) ≤ clean_most
+wait-size : (w : Arrival) → size (wait_of w wait_parent) ≤ clean_most
 unfolding wait_of
 wait-size w = size-one (sync _ _ _) clean_most (lit≤ tt)
 
-asking-size : (t : List Slot) (w : Work) → size (asking w (processed_of t w)).outs ≤ settle_most (length t)
+asking-size : (t : List Slot) (w : Arrival) → size (asking w (processed_of t w)).outs ≤ settle_most (length t)
 asking-size t w =
     by_cases (eqb (processed_of t w).answer wait_parent)
     (λ e. let z : (processed_of t w).answer ≡ wait_parent = eqb-true _ _ e in
@@ -259,10 +260,13 @@ asking-size t w =
     (λ e. rw (wait-none w (processed_of t w).answer e, append-nil) (processed-size t w))
 
 settled-size : (t : List Slot) (w : Work) → size (settled_of t w).outs ≤ settle_most (length t)
-settled-size t w =
-    by_cases (eqb w.does settle.block)
-    (λ e. rw (settled-block t w (eqb-true _ _ e)) (asking-size t w))
-    (λ e. rw (settled-silent t w (eqb-false _ _ e)) (size_none (settle_most (length t))))
+unfolding settled_of
+settled-size t w = cases w.task
+  where
+    cases : (k : Task) → size (settled_by t w k).outs ≤ settle_most (length t)
+    cases Task.Nothing = size_none (settle_most (length t))
+    cases Task.Clear = size_none (settle_most (length t))
+    cases (Task.Store b author) = asking-size t (record { block = b; author = author; last = w.last; at = w.at })
 
 -- ---- blocks
 

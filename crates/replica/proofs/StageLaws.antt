@@ -49,13 +49,13 @@ nothing-more seat stakes o t =
     (append-nil o.left.outs)
 
 pub together-ended : (seat : Seat) (stakes : List ℕ) (o : Outcome) (t : List Slot) (k : Block) → together (ended seat stakes o) t k ≡ left seat stakes t o
-unfolding together stage_work finished_of
+unfolding together finished_of
 together-ended seat stakes o t k =
     ap (concluded (ended seat stakes o) k) (settled-nothing t (stage_work (ended seat stakes o) k) refl) ∙ nothing-more seat stakes o t
 
 pub together-cleared : (seat : Seat) (stakes : List ℕ) (o : Outcome) (t : List Slot) (k : Block)
     → together (record { does = Does.Clear; seat = seat; stakes = stakes; out = o }) t k ≡ left seat stakes (cleared t) o
-unfolding together stage_work finished_of
+unfolding together finished_of
 together-cleared seat stakes o t k =
     ap (concluded (record { does = Does.Clear; seat = seat; stakes = stakes; out = o }) k)
     (settled-clear t (stage_work (record { does = Does.Clear; seat = seat; stakes = stakes; out = o }) k) refl)
@@ -88,7 +88,7 @@ module _ (seat : Seat) (stakes : List ℕ) (o : Outcome) (k : Block) where
   pub together-block : (t : List Slot)
       → together (record { does = Does.Block; seat = seat; stakes = stakes; out = o }) t k
       ≡ left seat stakes (processed_table t k o.left.state) (after o.left (processed (members_of seat stakes) seat.own.0 t k))
-  unfolding together stage_work finished_of processed processed_table after_settled settled_for
+  unfolding together finished_of processed processed_table after_settled settled_for
   together-block t = either_way (settled_for o.left.state t k) (eqb (settled_for o.left.state t k).answer 0)
 
 -- ---- by the kind of the record

@@ -21,7 +21,7 @@ use Rattle.moves.specs.Outcome.{Outcome}
 use Rattle.synchronizer.specs.declared.table.Slot.{Slot}
 use Rattle.synchronizer.specs.declared.settle.Work.{Work}
 use Rattle.synchronizer.specs.declared.settle.Settled.{Settled}
-use Rattle.synchronizer.specs.Settle.{Settlement, settled_of, settle_most, RoomFor, Settles}
+use Rattle.synchronizer.specs.Settle.{Settlement, settled_of, settle_most, RoomFor, Settles, is_store}
 use Rattle.synchronizer.proofs.SettleLaws.{settled-anywhere, settled-silent}
 use Rattle.replica.specs.declared.started.Seat.{Seat}
 use Rattle.replica.specs.declared.stages.Begun.{Begun}
@@ -29,40 +29,28 @@ use Rattle.replica.specs.declared.stages.Stepped.{Stepped}
 use Rattle.replica.specs.Started.{members_of, slots_max, room_for, roomy}
 use Rattle.replica.specs.Blocks.{slot_for, work_for}
 use Rattle.replica.specs.Step.{World, Result, Left, laid, world, left_by, stepped}
-use Rattle.replica.specs.Stages.{Stage, staged_of, finished_of, no_slot, work_at, stage_work, concluded, together, first_most, Ongoing, Begins, Finishable, Finishes}
+use Rattle.replica.specs.declared.stages.Does.{Does}
+use Rattle.certificates.specs.Error.{number}
+use Rattle.replica.specs.Stages.{Stage, staged_of, finished_of, is_block, task_of, work_at, stage_work, concluded, together, first_most, Ongoing, Begins, Finishable, Finishes}
 use Rattle.replica.proofs.StageLaws.{stages-step}
 
 -- ---- what the table is asked for
 
-abbrev asked : Bool → ℕ → Block → Round → ℕ → Work
-asked z does k last at = cond z (work_for k last at) (record { does = does; block = no_slot; author = record { 0 = 0 }; last = last; at = at })
+-- a block is asked for where there is one
+store-block : (d : Does) (k : Block) → is_store (task_of d k) ≡ is_block d
+store-block Does.Nothing k = refl
+store-block Does.Clear k = refl
+store-block Does.Block k = refl
 
-asked-at : (z : Bool) (does : ℕ) (k : Block) (last : Round) (at : ℕ) → (asked z does k last at).at ≡ at
-asked-at true does k last at = refl
-asked-at false does k last at = refl
-
-asked-does : (z : Bool) (does : ℕ) (k : Block) (last : Round) (at : ℕ) → z ≡ eqb does 2 → (asked z does k last at).does ≡ does
-asked-does true does k last at e = sym (eqb-true does 2 (sym e))
-asked-does false does k last at e = refl
-
-asked-anywhere : (t : List Slot) (z : Bool) (does : ℕ) (k : Block) (last : Round) (at at' : ℕ) → settled_of t (asked z does k last at) ≡ settled_of t (asked z does k last at')
-asked-anywhere t true does k last at at' = settled-anywhere t 2 _ k.author last at at'
-asked-anywhere t false does k last at at' = settled-anywhere t does no_slot (record { 0 = 0 }) last at at'
-
-module _ (b : Begun) (k : Block) where
-  pub work-at : (work_at b k).at ≡ b.at
-  unfolding work_at
-  work-at = asked-at (eqb b.does 2) b.does k b.core.last_committed_round b.at
-
-  pub work-does : (work_at b k).does ≡ b.does
-  unfolding work_at
-  work-does = asked-does (eqb b.does 2) b.does k b.core.last_committed_round b.at refl
+block-is : (d : Does) → is_block d ≡ true → d ≡ Does.Block
+block-is Does.Nothing e = absurd (true≢false (sym e))
+block-is Does.Clear e = absurd (true≢false (sym e))
+block-is Does.Block e = refl
 
 -- the settlement does not depend on the place to write at
 same-settled : (t : List Slot) (b : Begun) (g : Stage) (k : Block) → b.does ≡ g.does → b.core.last_committed_round ≡ g.out.left.state.core.last_committed_round
     → settled_of t (work_at b k) ≡ settled_of t (stage_work g k)
-unfolding work_at stage_work
-same-settled t b g k d l = rw (d, l) (asked-anywhere t (eqb g.does 2) g.does k g.out.left.state.core.last_committed_round b.at 0)
+same-settled t b g k d l = rw (d, l) (settled-anywhere t (task_of g.does k) g.out.left.state.core.last_committed_round b.at 0)
 
 -- ---- the room
 
@@ -102,27 +90,27 @@ module _ (seat : Seat) (stakes : List ℕ) (core : Core) (votes timeouts : List 
   long₁ = wrote-length p.did.bytes
 
   at-w : w.at ≡ b.at
-  at-w = ap (λ (x : Work). x.at) ask ∙ work-at b (block_of r)
+  at-w = ap (λ (x : Work). x.at) ask
 
-  does-w : w.does ≡ b.does
-  does-w = ap (λ (x : Work). x.does) ask ∙ work-does b (block_of r)
+  store-w : is_store w.task ≡ is_block b.does
+  store-w = ap (λ (x : Work). is_store x.task) ask ∙ store-block b.does (block_of r)
 
   pub settle-room : RoomFor w (length table) (length out₁)
   settle-room d =
-      let q = p.going (sym does-w ∙ d) in
+      let q = p.going (block-is b.does (sym store-w ∙ d)) in
       omega (arith, at-w, long₁, n, roomy-has slots (length out) q.0, q.1.going.short)
 
   module _ {s : Settled} {table' : List Slot} {out₂ : List ℕ} (q : Settles (settled_of table w) (settle_most (length table)) out₁ w.at s table' out₂) where
     long₂ : length out₂ ≡ length out₁
     long₂ = wrote-length q.bytes
 
-    finish-fits : b.does ≡ 2 → Ongoing b r stakes' votes' timeouts' × (s.at + voting_most ≤ length out₂)
+    finish-fits : b.does ≡ Does.Block → Ongoing b r stakes' votes' timeouts' × (s.at + voting_most ≤ length out₂)
     finish-fits d =
         let k = p.going d in
         (k.1, omega (arith, at-w, long₁, long₂, n, roomy-has slots (length out) k.0, k.1.going.short, q.bytes.room))
 
     pub finish-needs : Finishable b s r stakes' votes' timeouts' (length out₂)
-    finish-needs = record { going = λ (d : b.does ≡ 2). (finish-fits d).0; room = λ (d : b.does ≡ 2). (finish-fits d).1 }
+    finish-needs = record { going = λ (d : b.does ≡ Does.Block). (finish-fits d).0; room = λ (d : b.does ≡ Does.Block). (finish-fits d).1 }
 
     -- ---- what is left
 
@@ -139,7 +127,7 @@ module _ (seat : Seat) (stakes : List ℕ) (core : Core) (votes timeouts : List 
     -- what the first part leaves, as the last one is asked
     abbrev finished : Outcome
     finished =
-        finished_of (members_of b.seat stakes') b.seat.own.0 (whole b.core votes' timeouts') b.does b.answer s.answer s.last.0 (block_of r)
+        finished_of (members_of b.seat stakes') b.seat.own.0 (whole b.core votes' timeouts') b.does (number b.answer) (number s.answer) s.last.0 (block_of r)
 
     abbrev finishing : Outcome
     finishing =
@@ -149,25 +137,25 @@ module _ (seat : Seat) (stakes : List ℕ) (core : Core) (votes timeouts : List 
     same-finished = rw (p.sits, p.held, state-g, p.does, p.answer, q.answer, q.last, settled-g)
 
     -- nothing is written past the buffer
-    quiet-end : (z : Bool) → eqb b.does 2 ≡ z → s.at ≤ length out
-    quiet-end true e = omega (arith, (finish-fits (eqb-true b.does 2 e)).1, long₁, long₂)
+    quiet-end : (z : Bool) → is_block b.does ≡ z → s.at ≤ length out
+    quiet-end true e = omega (arith, (finish-fits (block-is b.does e)).1, long₁, long₂)
     quiet-end false e =
-        let none : (settled_of table w).outs ≡ [] = settled-silent table w (λ (h : w.does ≡ 2). eqb-false b.does 2 e (sym does-w ∙ h)) in
+        let none : (settled_of table w).outs ≡ [] = settled-silent table w (store-w ∙ e) in
         let same : s.at ≡ w.at + length (enc_all []) = rw none at q.bytes.place in
         let empty : length (enc_all []) ≡ 0 = ap length all_none in
         omega (arith, same, empty, at-w, p.fits)
 
     module _ {x : Stepped} {votes'' timeouts'' out₃ : List ℕ} (f : Finishes finished voting_most b.seat out₂ s.at x votes'' timeouts'' out₃) where
-      fits_by : (z : Bool) → eqb b.does 2 ≡ z → x.written ≤ length out
+      fits_by : (z : Bool) → is_block b.does ≡ z → x.written ≤ length out
       unfolding finished_of
-      fits_by true e = omega (arith, (finish-fits (eqb-true b.does 2 e)).1, long₁, long₂, f.did.bytes.room)
+      fits_by true e = omega (arith, (finish-fits (block-is b.does e)).1, long₁, long₂, f.did.bytes.room)
       fits_by false e =
           let same : x.written ≡ s.at + length (enc_all []) = rw e at f.did.bytes.place in
           let empty : length (enc_all []) ≡ 0 = ap length all_none in
           omega (arith, same, empty, quiet-end false e)
 
       written-fits : x.written ≤ length out
-      written-fits = fits_by (eqb b.does 2) refl
+      written-fits = fits_by (is_block b.does) refl
 
       abbrev outs : List Rec
       outs = g.out.left.outs ++ (settlement.outs ++ finishing.left.outs)
@@ -196,16 +184,3 @@ module _ (seat : Seat) (stakes : List ℕ) (core : Core) (votes timeouts : List 
 
       pub step_left : left_by x stakes' votes'' timeouts'' table' out₃ ≡ laid (stepped (world seat stakes core votes timeouts table) (length out) r) out
       step_left = left-g ∙ ap (λ (y : Result). laid y out) (sym result-g)
-
--- ---- what the table is asked for, by code
-
-module _ (b : Begun) {k k' : Block} (e : k ≡ k') where
-  pub work-block : {s : Slot} → b.does ≡ 2 → s ≡ slot_for k
-      → record { does = 2; block = s; author = k.author; last = b.core.last_committed_round; at = b.at } ≡ work_at b k'
-  unfolding work_at
-  work-block h f = rw (h, f, e)
-
-pub work-other : (b : Begun) (k : Block) {s : Slot} → (b.does ≡ 2 → ⊥) → s ≡ no_slot
-    → record { does = b.does; block = s; author = record { 0 = 0 }; last = b.core.last_committed_round; at = b.at } ≡ work_at b k
-unfolding work_at
-work-other b k h f = rw (ne_eqb _ _ h, f)

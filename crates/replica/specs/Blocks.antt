@@ -1,6 +1,6 @@
 -- 01, Events: PROPOSE and LOOPBACK, which need the table of blocks t.
 --     slot_for b                     the block as it is stored
---     work_for b last at             what the table is asked for: the block b, with the last committed round
+--     arrival_for, work_for b last at   what the table is asked for: the block b, with the last committed round
 --     after_settled, processed m own t b s   LOOPBACK's outcome
 --     processed_table s t b          and the table that it leaves
 --     going_on, going_on_table       PROPOSE, once its first part gave a proposal
@@ -8,9 +8,9 @@ use Rattle.std.specs.Prelude.{ℕ, true, cond, List, eqb}
 use Rattle.certificates.specs.declared.numbers.Round.{Round}
 use Rattle.trace.specs.declared.events.Block.{Block}
 use Rattle.synchronizer.specs.declared.table.Slot.{Slot}
-use Rattle.synchronizer.specs.declared.settle.Task.{Task}
+use Rattle.synchronizer.specs.declared.settle.Arrival.{Arrival}
 use Rattle.synchronizer.specs.declared.settle.Work.{Work}
-use Rattle.synchronizer.specs.Settle.{Settlement, settled_of}
+use Rattle.synchronizer.specs.Settle.{Settlement, brought, settled_of}
 use Rattle.moves.specs.State.{State, with_core, with_committed}
 use Rattle.moves.specs.Outcome.{Step, Outcome, done, after}
 use Rattle.handlers.specs.Votes.{voting}
@@ -21,8 +21,11 @@ abbrev pub slot_for : Block → Slot
 slot_for b = record { used = true; digest = b.digest; round = b.round; parent = b.qc_hash; parent_round = b.qc_round }
 
 -- what the table is asked for
+abbrev pub arrival_for : Block → Round → ℕ → Arrival
+arrival_for b last at = record { block = slot_for b; author = b.author; last = last; at = at }
+
 abbrev pub work_for : Block → Round → ℕ → Work
-work_for b last at = record { task = Task.Store (slot_for b) b.author; last = last; at = at }
+work_for b last at = brought (arrival_for b last at)
 
 -- parents, the store, CLEAN PROPOSER, CLEAN MEMPOOL and the commit
 unfoldable pub settled_for : State → List Slot → Block → Settlement

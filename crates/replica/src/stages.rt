@@ -248,17 +248,15 @@ fn propose(
     let b = block_of(input);
     let payload = payload_of(input);
     let r = handle_proposal(members, need, core, votes, timeouts, out, input, b, payload);
-    let does = if r.answer.is_ok() {
-        Does::Block
-    } else {
-        Does::Nothing
-    };
-    Handed {
-        answer: r.answer,
-        core: r.core,
-        at: r.at,
-        does,
+    if r.answer.is_ok() {
+        return Handed {
+            answer: r.answer,
+            core: r.core,
+            at: r.at,
+            does: Does::Block,
+        };
     }
+    of_ran(r)
 }
 
 // An event of a started replica, once its limits are checked.

@@ -30,11 +30,11 @@ pub struct Work {
 
 // A block that comes to the table, and what Work says beside it.
 #[derive(Clone, Copy, Debug, PartialEq, Eq)]
-pub(crate) struct Arrival {
-    pub(crate) block: Slot,
-    pub(crate) author: Place,
-    pub(crate) last: Round,
-    pub(crate) at: usize,
+pub struct Arrival {
+    pub block: Slot,
+    pub author: Place,
+    pub last: Round,
+    pub at: usize,
 }
 
 // The answer, the last committed round, and the place after the outputs.

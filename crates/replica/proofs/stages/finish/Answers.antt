@@ -6,15 +6,14 @@ use Rattle.replica.proofs.stages.finish.Goals as goal
 
 pub conclude-requires : goal.conclude-requires
 conclude-requires c =
-    let d = c.if-b-eq2.true in
-    (c.requires.going d, c.requires.room d)
+    (c.requires.going c.in-Block.is, c.requires.room c.in-Block.is)
 
-pub returns-then-s-eq-DONE : goal.returns-then-s-eq-DONE
-returns-then-s-eq-DONE c =
-    finish-votes _ _ c.args.b.core _ _ _ c.args.b.answer _ _ _ _ c.if-b-eq2.true c.if-s-eq-DONE.true c.conclude.ensures
+pub returns-in-Ok : goal.returns-in-Ok
+returns-in-Ok c =
+    finish-votes _ _ c.args.b.core _ _ _ _ _ _ _ _ c.in-Block.is c.in-Ok.is c.conclude.ensures
 
-pub returns-then-b-eq2 : goal.returns-then-b-eq2
-returns-then-b-eq2 c = search (rules, finish-refused)
+pub returns-in-Err : goal.returns-in-Err
+returns-in-Err c = search (rules, finish-refused)
 
 pub returns : goal.returns
 returns c = search (rules, finish-ended)

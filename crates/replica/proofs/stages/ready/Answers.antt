@@ -5,8 +5,8 @@ use Rattle.replica.proofs.StartedLaws.{started-ready, members-part}
 use borrow.Author.Rules.{rules}
 use Rattle.replica.proofs.stages.ready.Goals as goal
 
-pub returns-then-limit-ne0 : goal.returns-then-limit-ne0
-returns-then-limit-ne0 c =
+pub returns-in-Err : goal.returns-in-Err
+returns-in-Err c =
     search (rules, ready-limited)
 
 pub slice_bounds-handle-end : goal.slice_bounds-handle-end
@@ -16,11 +16,11 @@ slice_bounds-handle-end c =
 
 pub handle-h-requires : goal.handle-h-requires
 handle-h-requires c =
-    handle-needs _ _ c.args.core _ _ _ c.args.out.now _ c.is_roomy.ensures _ c.limit_of-limit.ensures c.requires c.quorum_threshold-need.ensures c.if-is_roomy.true c.if-limit-ne0.false (members-part c.args.seat _)
+    handle-needs _ _ c.args.core _ _ _ c.args.out.now _ c.is_roomy.ensures _ c.limit_of.ensures c.requires c.quorum_threshold-need.ensures c.if-is_roomy.true c.in-Ok.is (members-part c.args.seat _)
 
-pub returns-then-is_roomy : goal.returns-then-is_roomy
-returns-then-is_roomy c =
-    ready-handled _ _ _ _ _ _ _ _ c.is_roomy.ensures _ c.limit_of-limit.ensures c.requires c.quorum_threshold-need.ensures c.if-is_roomy.true c.if-limit-ne0.false (members-part c.args.seat _) c.handle-h.ensures c.of_handed.ensures
+pub returns-in-Ok : goal.returns-in-Ok
+returns-in-Ok c =
+    ready-handled _ _ _ _ _ _ _ _ c.is_roomy.ensures _ c.limit_of.ensures c.requires c.quorum_threshold-need.ensures c.if-is_roomy.true c.in-Ok.is (members-part c.args.seat _) c.handle-h.ensures c.of_handed.ensures
 
 pub returns : goal.returns
 returns c =
