@@ -6,7 +6,7 @@ ghost use Rattle.certificates.specs.Messages.{is_genesis, author_check, unknown_
 
 use crate::config::{MEMBERS_MAX, stake};
 use crate::error::{AuthorError, CertificateError};
-use crate::num::{hash_at, raw16, u8_at, u16_at, u64_at};
+use crate::num::{hash_at, u8_at, u16_at, u64_at};
 use crate::numbers::{Hash, Place, Round, Signers, Stake};
 use crate::signers::weight;
 
@@ -61,7 +61,8 @@ fn place_at(form: Form, part: &[u8], i: usize) -> Place
     requires { form.at + 3 + form.stride * i + 2 ≤ length part.now }
     ensures { result.0 ≡ num_at 2 part.now (form.at + 3 + form.stride * i) }
 {
-    Place(raw16(part, form.at + 3 + form.stride * i))
+    let at = form.at + 3 + form.stride * i;
+    Place(u16::from_le_bytes([part[at], part[at + 1]]))
 }
 
 // Whether a place is no member with stake. A signer set has room for no place past the limit.
