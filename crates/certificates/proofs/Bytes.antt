@@ -1,5 +1,5 @@
--- The laws of `le` and of reads at a place: one law joins two reads into one of both widths.
--- Assumes nothing.
+-- The laws of `le` and of reads at a place: one law joins two reads into one of both widths, and one says what the library makes
+-- of the bytes that are taken. Assumes nothing.
 use mathlib.Core.Path.{◌≡◌, refl, sym, ap, ◌∙◌}
 use mathlib.Core.Bool.{Bool, true, false}
 use mathlib.Core.List.{List, [], ◌∷◌, ◌++◌}
@@ -20,12 +20,6 @@ use Rattle.certificates.specs.Num.{le, bytes_at, num_at, hash_in, hash_at, nums_
 -- what a test that held, or failed, says
 pub leb_yes : {a b : ℕ} → a ≤ b → true ≡ leb a b
 leb_yes h = sym (le-leb _ _ h)
-
-pub leb_no : {a b : ℕ} → b < a → false ≡ leb a b
-leb_no h = sym (lt-leb _ _ h)
-
-pub tested : {a b : ℕ} {t : Bool} → t ≡ leb a b → t ≡ true → a ≤ b
-tested {a} {b} e t = leb-true a b (sym e ∙ t)
 
 pub le-append : (xs ys : List ℕ) → le (xs ++ ys) ≡ le xs + 256 ^ length xs * le ys
 unfolding le
