@@ -1,4 +1,4 @@
--- Laws of the QC inside a block or a timeout, and of an author's check: what a good answer says. Assumes nothing.
+-- Laws of `is_genesis`, of the QC inside a block or a timeout, and of an author's check: what a good answer says. Assumes nothing.
 use Prim.Native.Nat.{ℕ, ◌≤◌, ◌<◌}
 use mathlib.Core.Path.{◌≡◌, refl, sym, ◌∙◌}
 use mathlib.Core.Logic.{◌≢◌}
@@ -12,10 +12,20 @@ use Rattle.certificates.specs.declared.numbers.Hash.{Hash}
 use Rattle.certificates.specs.declared.numbers.Place.{Place}
 use Rattle.certificates.specs.declared.numbers.Stake.{Stake}
 use Rattle.certificates.specs.declared.error.AuthorError.TheVariants.{UnknownAuthority, InvalidSignature}
+use Rattle.certificates.specs.Numbers.{zero_hash, same_hash}
 use Rattle.certificates.specs.Num.{num_at, hash_at}
 use Rattle.certificates.specs.Config.{stake_of}
 use Rattle.certificates.specs.Messages.{is_genesis, qc_form, equals_genesis, author_check}
 use Rattle.certificates.proofs.ConfigLaws.{stake-member}
+
+module _ (h : Hash) (round : ℕ) {t : Bool} (e : t ≡ same_hash h zero_hash) where
+  pub genesis-round : t ≡ true → eqb round 0 ≡ is_genesis h round
+  unfolding is_genesis
+  genesis-round y = rw (← e, y)
+
+  pub genesis-other : t ≡ false → false ≡ is_genesis h round
+  unfolding is_genesis
+  genesis-other n = rw (← e, n)
 
 -- ---- the QC inside a block or a timeout
 
