@@ -62,8 +62,8 @@ pub walk_none : (m : List ℕ) (need : ℕ) (verdict : Bool) (ps : List ℕ) →
 walk_none m need verdict ps = record { so_far = refl }
 
 module _ {m : List ℕ} {need : ℕ} {verdict : Bool} {ps : List ℕ} {i : ℕ} (k : Walk m need verdict ps i) where
-  pub at-end : (s : Signers) → length ps ≤ i → Signed m (take i ps) s → {r : Result Signers CertificateError} → r ≡ settled_by m need verdict s → r ≡ check_from m need verdict [] ps
-  at-end s h c e = e ∙ sym (check-end m need verdict ps i s h c) ∙ k.so_far
+  pub at-end : (s : Signers) → length ps ≤ i → Signed m (take i ps) s → settled_by m need verdict s ≡ check_from m need verdict [] ps
+  at-end s h c = sym (check-end m need verdict ps i s h c) ∙ k.so_far
 
   module _ (p : ℕ) (here : p ≡ get_or ps i 0) (h : i < length ps) where
     step : check_from m need verdict [] ps
