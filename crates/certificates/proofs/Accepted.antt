@@ -31,28 +31,28 @@ use Rattle.certificates.proofs.Check.{Known, known, known-stake}
 
 from_settled : (short verdict : Bool) (v s : Signers) → cond short (Err RequiresQuorum) (cond verdict (Ok v) (Err InvalidSignature)) ≡ Ok s
     → (short ≡ false) × (verdict ≡ true) × (v ≡ s)
-from_settled true verdict v s e = absurd (let z : ◌≡◌ {A = ℕ} 0 1 = cc in omega arith)
+from_settled true verdict v s e = absurd (cc)
 from_settled false true v s e = (refl, refl, cc)
-from_settled false false v s e = absurd (let z : ◌≡◌ {A = ℕ} 0 1 = cc in omega arith)
+from_settled false false v s e = absurd (cc)
 
 from_step : (repeat none : Bool) (p : Place) (rest : Result Signers CertificateError) (s : Signers) → cond repeat (Err (AuthorityReuse p)) (cond none (Err (UnknownAuthority p)) rest) ≡ Ok s
     → (repeat ≡ false) × (none ≡ false) × (rest ≡ Ok s)
-from_step true none p rest s e = absurd (let z : ◌≡◌ {A = ℕ} 0 1 = cc in omega arith)
-from_step false true p rest s e = absurd (let z : ◌≡◌ {A = ℕ} 0 1 = cc in omega arith)
+from_step true none p rest s e = absurd (cc)
+from_step false true p rest s e = absurd (cc)
 from_step false false p rest s e = (refl, refl, e)
 
 from-part : (whole : Bool) (r : Result Signers CertificateError) (s : Signers) → cond whole r (Err Cut) ≡ Ok s → (whole ≡ true) × (r ≡ Ok s)
 from-part true r s e = (refl, e)
-from-part false r s e = absurd (let z : ◌≡◌ {A = ℕ} 0 1 = cc in omega arith)
+from-part false r s e = absurd (cc)
 
 settled-not-cut : (short verdict : Bool) (s : Signers) → cond short (Err RequiresQuorum) (cond verdict (Ok s) (Err InvalidSignature)) ≢ (Err Cut)
-settled-not-cut true verdict s e = let z : ◌≡◌ {A = ℕ} 0 1 = cc in omega arith
-settled-not-cut false true s e = let z : ◌≡◌ {A = ℕ} 0 1 = cc in omega arith
-settled-not-cut false false s e = let z : ◌≡◌ {A = ℕ} 0 1 = cc in omega arith
+settled-not-cut true verdict s e = cc
+settled-not-cut false true s e = cc
+settled-not-cut false false s e = cc
 
 step-not-cut : (repeat none : Bool) (p : Place) (rest : Result Signers CertificateError) → rest ≢ (Err Cut) → cond repeat (Err (AuthorityReuse p)) (cond none (Err (UnknownAuthority p)) rest) ≢ (Err Cut)
-step-not-cut true none p rest n e = let z : ◌≡◌ {A = ℕ} 0 1 = cc in omega arith
-step-not-cut false true p rest n e = let z : ◌≡◌ {A = ℕ} 0 1 = cc in omega arith
+step-not-cut true none p rest n e = cc
+step-not-cut false true p rest n e = cc
 step-not-cut false false p rest n e = n e
 
 -- ---- a list that is walked to its end
@@ -133,7 +133,7 @@ distinct-walked m ps d =
 
 or_left : (a b : Bool) → a ≡ true → (a || b) ≡ true
 or_left true b e = refl
-or_left false b e = absurd (let z : ◌≡◌ {A = ℕ} 0 1 = cc in omega arith)
+or_left false b e = absurd (cc)
 
 or-more : (a a' b : Bool) → (a ≡ true → a' ≡ true) → (a || b) ≡ true → (a' || b) ≡ true
 or-more true a' b h e = or_left a' b (h refl)

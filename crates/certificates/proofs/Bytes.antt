@@ -1,28 +1,25 @@
--- The laws of `le` and of reads at a place: one law joins two reads into one of both widths.
--- Assumes nothing.
+-- The laws of `le` and of reads at a place: one law joins two reads into one of both widths, and one says what the library makes
+-- of the bytes that are taken. Assumes nothing.
 use mathlib.Core.Path.{◌≡◌, refl, sym, ap, ◌∙◌}
 use mathlib.Core.Bool.{Bool, true, false}
 use mathlib.Core.List.{List, [], ◌∷◌, ◌++◌}
-use Prim.Native.Nat.{ℕ, zero, suc, ◌+◌, ◌*◌, ◌^◌, ◌≤◌, ◌<◌}
-use native.Mathlib.Nat.{one-mul, mul-zero, mul-suc, mul_assoc, pow-succ'}
+use Prim.Native.Nat.{ℕ, zero, suc, ◌+◌, ◌-◌, ◌*◌, ◌^◌, ◌≤◌, ◌<◌}
+use native.Mathlib.Nat.{one-mul, mul-zero, mul-suc, mul_assoc, mul_comm, pow-succ'}
 use native.Mathlib.Omega.{arith}
-use lib.ListN.{length, take, drop, get_or, length-drop}
-use lib.Seq.{take-add, drop-drop, drop-cons, length-take-le}
+use Rattle.std.specs.Prelude.{cond, slice_range}
+use Rattle.std.proofs.lemmas.List.{drop-take, take-take}
+use Rattle.std.specs.Int.{sum_through, byte_worth}
+use lib.ListN.{length, take, drop, get_or, replicate, length-drop}
+use lib.Seq.{take-add, take-suc, take_all, drop-drop, drop-cons, length-take-le}
 use lib.Dec.{leb}
-use borrow.Author.Tests.{le-leb, lt-leb, leb-true}
+use borrow.Author.Tests.{le-leb, lt-leb, leb-true, leb-false}
 use Rattle.certificates.specs.declared.numbers.Hash.{Hash}
 use Rattle.certificates.specs.Numbers.{zero_hash}
-use Rattle.certificates.specs.Num.{le, num_at, hash_in, hash_at, nums_at}
+use Rattle.certificates.specs.Num.{le, bytes_at, num_at, hash_in, hash_at, nums_at}
 
 -- what a test that held, or failed, says
 pub leb_yes : {a b : ℕ} → a ≤ b → true ≡ leb a b
 leb_yes h = sym (le-leb _ _ h)
-
-pub leb_no : {a b : ℕ} → b < a → false ≡ leb a b
-leb_no h = sym (lt-leb _ _ h)
-
-pub tested : {a b : ℕ} {t : Bool} → t ≡ leb a b → t ≡ true → a ≤ b
-tested {a} {b} e t = leb-true a b (sym e ∙ t)
 
 pub le-append : (xs ys : List ℕ) → le (xs ++ ys) ≡ le xs + 256 ^ length xs * le ys
 unfolding le
@@ -31,6 +28,22 @@ le-append (x ∷ xs) ys =
     let ih = le-append xs ys in
     let e : 256 ^ suc (length xs) * le ys ≡ 256 * (256 ^ length xs * le ys) = rw pow-succ' (mul_assoc 256 _ _) in
     omega arith
+
+le-zeros : (n : ℕ) → le (replicate n 0) ≡ 0
+unfolding le
+le-zeros zero = refl
+le-zeros (suc n) = rw (le-zeros n)
+
+-- the first bytes, as the library sums them
+le-worth : (xs : List ℕ) (k : ℕ) → k < length xs → sum_through (λ i. byte_worth i (get_or xs i 0)) k ≡ le (take (suc k) xs)
+unfolding le
+le-worth [] zero h = absurd (omega arith)
+le-worth (x ∷ xs) zero h = omega arith
+le-worth xs (suc k) h =
+    let n : length (take (suc k) xs) ≡ suc k = length-take-le (suc k) xs (omega arith) in
+    let x = get_or xs (suc k) 0 in
+    let one : le (x ∷ []) ≡ x = omega arith in
+    rw (le-worth xs k (omega arith), take-suc xs (suc k) 0 h, le-append, n, one) (ap (λ (y : ℕ). le (take (suc k) xs) + y) (mul_comm x (256 ^ suc k)))
 
 module _ (s : List ℕ) (at : ℕ) where
   -- one byte
@@ -71,6 +84,78 @@ module _ (s : List ℕ) (at : ℕ) where
   pub num-within : (w : ℕ) {x : ℕ} → x ≡ le (take w (drop at s)) → at + w ≤ length s → x ≡ num_at w s at
   unfolding num_at
   num-within w e h = rw (le-leb _ _ h) e
+
+  -- ---- the bytes that a read takes, and zeros where they do not all lie in s
+
+  pub bytes-in : (n : ℕ) {rest xs : List ℕ} → rest ≡ slice_range s at (length s) → at ≤ length s → n ≤ length rest → xs ≡ take n rest → xs ≡ bytes_at n s at
+  unfolding bytes_at
+  bytes-in n {rest} {xs} e l h p =
+      let long : length (drop at s) ≡ length s - at = length-drop at s in
+      let all : rest ≡ drop at s = e ∙ take_all (length s - at) (drop at s) (omega (arith, long)) in
+      rw (le-leb (at + n) (length s) (omega (arith, long, ap (length {A = ℕ}) all)), p, all) refl
+
+  pub bytes-out : (n : ℕ) → length s < at + n → replicate n 0 ≡ bytes_at n s at
+  unfolding bytes_at
+  bytes-out n h = rw (lt-leb (at + n) (length s) h)
+
+  le-bytes : (n : ℕ) → le (bytes_at n s at) ≡ num_at n s at
+  unfolding bytes_at num_at
+  le-bytes n = cases (leb (at + n) (length s))
+    where
+      cases : (b : Bool) → le (cond b (take n (drop at s)) (replicate n 0)) ≡ cond b (le (take n (drop at s))) 0
+      cases true = refl
+      cases false = le-zeros n
+
+  -- a number that the library makes of them
+  pub from-bytes : (k : ℕ) {r : ℕ} (xs : List ℕ) → r ≡ sum_through (λ i. byte_worth i (get_or xs i 0)) k → length xs ≡ suc k → xs ≡ bytes_at (suc k) s at → r ≡ num_at (suc k) s at
+  from-bytes k xs e n p =
+      let all : take (suc k) xs ≡ xs = take_all (suc k) xs (omega arith) in
+      e ∙ le-worth xs k (omega arith) ∙ ap le (all ∙ p) ∙ le-bytes (suc k)
+
+-- two bytes
+pub pair-read : (s : List ℕ) (at : ℕ) {r : ℕ} → r ≡ get_or s at 0 + get_or s (at + 1) 0 * 256 → at + 2 ≤ length s → r ≡ num_at 2 s at
+pair-read s at {r} e h =
+    let one : r ≡ get_or s at 0 + 256 * get_or s (at + 1) 0 = omega arith in
+    num-within s at 2 (one ∙ joined s at 1 1 (single s at (omega arith)) (single s (at + 1) (omega arith)) h) h
+
+-- 8 of 32 bytes, and 8 of 32 zeros
+word-in : (s : List ℕ) (at k : ℕ) → k + 8 ≤ 32 → at + 32 ≤ length s → num_at 8 (take 32 (drop at s)) k ≡ le (take 8 (drop (at + k) s))
+word-in s at k e h =
+    let long : length (take 32 (drop at s)) ≡ 32 = length-take-le 32 (drop at s) (rw length-drop (omega arith)) in
+    let all : k + (32 - k) ≡ 32 = omega arith in
+    let rest : drop k (take 32 (drop at s)) ≡ take (32 - k) (drop (at + k) s) = rw all at (drop-take k (32 - k) (drop at s) ∙ ap (λ (l : List ℕ). take (32 - k) l) (drop-drop k at s)) in
+    sym (num-within (take 32 (drop at s)) k 8 (ap le (sym (ap (λ (l : List ℕ). take 8 l) rest ∙ take-take 8 (32 - k) (drop (at + k) s) (omega arith)))) (omega (arith, long)))
+
+words-out : (num_at 8 (replicate 32 0) 0 ≡ 0) × (num_at 8 (replicate 32 0) 8 ≡ 0) × (num_at 8 (replicate 32 0) 16 ≡ 0) × (num_at 8 (replicate 32 0) 24 ≡ 0)
+unfolding num_at le
+words-out = (refl, refl, refl, refl)
+
+-- a hash is four numbers of its 32 bytes
+module _ (s : List ℕ) (at : ℕ) {bytes : List ℕ} {a b c d : ℕ} (e : bytes ≡ bytes_at 32 s at)
+    (f : a ≡ num_at 8 bytes 0) (g : b ≡ num_at 8 bytes 8) (h : c ≡ num_at 8 bytes 16) (i : d ≡ num_at 8 bytes 24) where
+  whole : at + 32 ≤ length s → record { a = a; b = b; c = c; d = d } ≡ hash_at s at
+  unfolding hash_at bytes_at
+  whole l =
+      let test = le-leb (at + 32) (length s) l in
+      let all : bytes ≡ take 32 (drop at s) = rw test at e in
+      let w : (k : ℕ) → k + 8 ≤ 32 → num_at 8 bytes k ≡ le (take 8 (drop (at + k) s)) = λ k n. rw all (word-in s at k n l) in
+      let first : at + 0 ≡ at = omega arith in
+      rw test (hash-read s at (rw first at (f ∙ w 0 (omega arith))) (g ∙ w 8 (omega arith)) (h ∙ w 16 (omega arith)) (i ∙ w 24 (omega arith)))
+
+  cut : length s < at + 32 → record { a = a; b = b; c = c; d = d } ≡ hash_at s at
+  unfolding hash_at bytes_at
+  cut l =
+      let test = lt-leb (at + 32) (length s) l in
+      let all : bytes ≡ replicate 32 0 = rw test at e in
+      let w = words-out in
+      rw (test, rw all at f ∙ w.0, rw all at g ∙ w.1, rw all at h ∙ w.2, rw all at i ∙ w.3)
+
+  pub hash-bytes : record { a = a; b = b; c = c; d = d } ≡ hash_at s at
+  hash-bytes = cases (leb (at + 32) (length s)) refl
+    where
+      cases : (t : Bool) → leb (at + 32) (length s) ≡ t → record { a = a; b = b; c = c; d = d } ≡ hash_at s at
+      cases true t = whole (leb-true (at + 32) (length s) t)
+      cases false t = cut (leb-false (at + 32) (length s) t)
 
 -- ---- the numbers that entries begin with
 

@@ -1,4 +1,4 @@
--- The check of a list of signers, a signer at a time: one law for each way out of the walk, of the quorum and of the bytes. Assumes nothing.
+-- The check of a list of signers, a signer at a time: one law for each way out of the walk and of the bytes. Assumes nothing.
 use Prim.Native.Nat.{ℕ, ◌+◌, ◌*◌, ◌≤◌, ◌<◌}
 use mathlib.Core.Path.{◌≡◌, refl, sym, ◌∙◌}
 use mathlib.Core.Logic.{◌≢◌}
@@ -9,11 +9,11 @@ use native.Mathlib.Omega.{arith}
 use lib.ListN.{length, get_or, take, drop, drop_of_length-le}
 use lib.Seq.{take-suc, drop-cons}
 use lib.Dec.{eqb}
-use borrow.Author.Tests.{ne_eqb, eqb-false, lt-ltb, le-ltb, ltb-true, lt-leb, le-leb}
-use Rattle.std.specs.Prelude.{Result, Ok, Err}
+use borrow.Author.Tests.{ne_eqb, eqb-false, lt-ltb, ltb-true, lt-leb, le-leb}
+use Rattle.std.specs.Prelude.{Result, Err}
 use Rattle.certificates.specs.declared.numbers.Signers.{Signers}
 use Rattle.certificates.specs.declared.error.CertificateError.{CertificateError}
-use Rattle.certificates.specs.declared.error.CertificateError.TheVariants.{AuthorityReuse, UnknownAuthority, RequiresQuorum, InvalidSignature, Cut}
+use Rattle.certificates.specs.declared.error.CertificateError.TheVariants.{AuthorityReuse, UnknownAuthority, Cut}
 use Rattle.certificates.specs.Num.{num_at, nums_at}
 use Rattle.certificates.specs.Config.{members_max, stake_of}
 use Rattle.certificates.specs.Signers.{weight_of, member}
@@ -25,41 +25,18 @@ use Rattle.certificates.proofs.Clean.{Signed}
 -- ---- a known place
 
 module _ (m : List ℕ) (p : ℕ) where
-  pub unknown-past : members_max ≤ p → true ≡ unknown_to m p
-  unfolding unknown_to
-  unknown-past h = rw (le-ltb p members_max h)
-
-  pub unknown-stake : {x : ℕ} → p < members_max → x ≡ stake_of m p → eqb x 0 ≡ unknown_to m p
-  unfolding unknown_to
-  unknown-stake h e = rw (lt-ltb p members_max h, e)
-
   pub known-stake : p < members_max → stake_of m p ≢ 0 → unknown_to m p ≡ false
   unfolding unknown_to
   known-stake h n = rw (lt-ltb p members_max h, ne_eqb (stake_of m p) 0 n)
 
   from-known : (low none : Bool) → cond low none true ≡ false → (low ≡ true) × (none ≡ false)
   from-known true none e = (refl, e)
-  from-known false none e = absurd (let z : ◌≡◌ {A = ℕ} 0 1 = cc in omega arith)
+  from-known false none e = absurd (cc)
 
 -- what a known place is
 pub record Known (m : List ℕ) (p : ℕ) : Type 0 where
   pub small : p < members_max
   pub stake : stake_of m p ≢ 0
-
--- ---- the quorum, and then the verdict
-
-module _ (m : List ℕ) (need : ℕ) (s : Signers) {held : ℕ} (e : held ≡ weight_of m s) where
-  pub settled-short : (verdict : Bool) → held < need → (Err RequiresQuorum) ≡ settled_by m need verdict s
-  unfolding settled_by
-  settled-short verdict h = rw (← e, lt-ltb held need h)
-
-  pub settled-yes : {verdict : Bool} → need ≤ held → verdict ≡ true → Ok s ≡ settled_by m need verdict s
-  unfolding settled_by
-  settled-yes h y = rw (← e, le-ltb held need h, y)
-
-  pub settled-no : {verdict : Bool} → need ≤ held → verdict ≡ false → (Err InvalidSignature) ≡ settled_by m need verdict s
-  unfolding settled_by
-  settled-no h y = rw (← e, le-ltb held need h, y)
 
 -- ---- the walk
 
@@ -85,8 +62,8 @@ pub walk_none : (m : List ℕ) (need : ℕ) (verdict : Bool) (ps : List ℕ) →
 walk_none m need verdict ps = record { so_far = refl }
 
 module _ {m : List ℕ} {need : ℕ} {verdict : Bool} {ps : List ℕ} {i : ℕ} (k : Walk m need verdict ps i) where
-  pub at-end : (s : Signers) → length ps ≤ i → Signed m (take i ps) s → {r : Result Signers CertificateError} → r ≡ settled_by m need verdict s → r ≡ check_from m need verdict [] ps
-  at-end s h c e = e ∙ sym (check-end m need verdict ps i s h c) ∙ k.so_far
+  pub at-end : (s : Signers) → length ps ≤ i → Signed m (take i ps) s → settled_by m need verdict s ≡ check_from m need verdict [] ps
+  at-end s h c = sym (check-end m need verdict ps i s h c) ∙ k.so_far
 
   module _ (p : ℕ) (here : p ≡ get_or ps i 0) (h : i < length ps) where
     step : check_from m need verdict [] ps

@@ -11,7 +11,7 @@ use lib.ListN.{length, get_or, take, drop, take-append-drop}
 use lib.Seq.{take-suc, take_all}
 use lib.Bits.{bit_or, or_add_and, and_le_l, and_le_r}
 use lib.Dec.{eqb, ltb}
-use borrow.Author.Tests.{eq-eqb, ne_eqb, eqb-false, lt-ltb, le-ltb, ltb-false}
+use borrow.Author.Tests.{ne_eqb, eqb-false, lt-ltb, le-ltb, ltb-false}
 use Rattle.std.specs.Prelude.{fold, Option, None, Some}
 use Rattle.std.proofs.Common.{zero-add}
 use Rattle.certificates.specs.declared.numbers.Stake.{Stake}
@@ -137,19 +137,7 @@ quorum-overlap t a b h k = omega arith
 
 -- ---- the limits
 
-pub limit-bad : (t : ℕ) → total_max < t → None ≡ limited t
-unfolding limited
-limit-bad t h = rw (lt-ltb total_max t h)
-
-pub limit-good : (t : ℕ) → t ≤ total_max → Some record { 0 = t } ≡ limited t
-unfolding limited
-limit-good t h = rw (le-ltb total_max t h)
-
 module _ (m : List ℕ) where
-  pub setup-none : length m ≡ 0 → None ≡ setup_of m
-  unfolding setup_of
-  setup-none h = rw (eq-eqb (length m) 0 h)
-
   pub setup-many : (length m ≡ 0 → ⊥) → members_max < length m → None ≡ setup_of m
   unfolding setup_of
   setup-many n h = rw (ne_eqb (length m) 0 n, lt-ltb members_max (length m) h)
@@ -167,9 +155,9 @@ pub record Within (m : List ℕ) (t : ℕ) : Type 0 where
 
 from-limits : (none many high : Bool) (n : ℕ) (t : Stake) → cond none None (cond many None (cond high None (Some record { 0 = n }))) ≡ Some t
     → (none ≡ false) × (many ≡ false) × (high ≡ false) × (n ≡ t.0)
-from-limits true many high n t e = absurd (let z : ◌≡◌ {A = ℕ} 0 1 = cc in omega arith)
-from-limits false true high n t e = absurd (let z : ◌≡◌ {A = ℕ} 0 1 = cc in omega arith)
-from-limits false false true n t e = absurd (let z : ◌≡◌ {A = ℕ} 0 1 = cc in omega arith)
+from-limits true many high n t e = absurd (cc)
+from-limits false true high n t e = absurd (cc)
+from-limits false false true n t e = absurd (cc)
 from-limits false false false n t e = (refl, refl, refl, cc)
 
 pub within : (m : List ℕ) (t : Stake) → setup_of m ≡ Some t → Within m t.0

@@ -1,23 +1,15 @@
--- Laws of the leader: one for each way out of the tests, and that the leader is a member. Assumes nothing.
+-- Laws of the leader: whose turn it is, and that the leader is a member. Assumes nothing.
 use Prim.Native.Nat.{ℕ, ◌%◌, ◌≤◌, ◌<◌}
 use mathlib.Core.Path.{◌≡◌}
 use mathlib.Core.List.{List}
 use native.Mathlib.Nat.{mod-lt}
 use native.Mathlib.Omega.{arith}
 use lib.ListN.{length}
-use borrow.Author.Tests.{eq-eqb, ne_eqb, lt-ltb, le-ltb}
+use borrow.Author.Tests.{ne_eqb, le-ltb}
 use Rattle.certificates.specs.Config.{members_max}
 use Rattle.certificates.specs.Leader.{leader_of}
 
 module _ (m : List ℕ) (r : ℕ) where
-  pub leader-none : length m ≡ 0 → 0 ≡ leader_of m r
-  unfolding leader_of
-  leader-none h = rw (eq-eqb (length m) 0 h)
-
-  pub leader-many : (length m ≡ 0 → ⊥) → members_max < length m → 0 ≡ leader_of m r
-  unfolding leader_of
-  leader-many n h = rw (ne_eqb (length m) 0 n, lt-ltb members_max (length m) h)
-
   pub leader-turn : (length m ≡ 0 → ⊥) → length m ≤ members_max → r % length m ≡ leader_of m r
   unfolding leader_of
   leader-turn n h = rw (ne_eqb (length m) 0 n, le-ltb members_max (length m) h)

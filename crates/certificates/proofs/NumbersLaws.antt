@@ -5,7 +5,6 @@
 use Prim.Native.Nat.{ℕ}
 use mathlib.Core.Bool.{Bool, true, false, cond, ◌&&◌}
 use mathlib.Core.Path.{◌≡◌, refl}
-use native.Mathlib.Omega.{arith}
 use borrow.Author.Tests.{eqb-true, eq-eqb}
 use lib.Dec.{eqb}
 use Rattle.certificates.specs.declared.numbers.Hash.{Hash}
@@ -14,11 +13,11 @@ use Rattle.certificates.specs.Messages.{is_genesis}
 
 pub both : (a b : Bool) → cond a b false ≡ true → (a ≡ true) × (b ≡ true)
 both true b e = (refl, e)
-both false b e = absurd (let z : ◌≡◌ {A = ℕ} 0 1 = cc in omega arith)
+both false b e = absurd (cc)
 
 all-true : (a b : Bool) → (a && b) ≡ true → (a ≡ true) × (b ≡ true)
 all-true true b e = (refl, e)
-all-true false b e = absurd (let z : ◌≡◌ {A = ℕ} 0 1 = cc in omega arith)
+all-true false b e = absurd (cc)
 
 pub hash-same : (x y : Hash) → same_hash x y ≡ true → x ≡ y
 hash-same x y e =

@@ -1,5 +1,5 @@
 -- Lists of places: what is among them, and what is among the first of them. Assumes nothing.
-use Prim.Native.Nat.{ℕ, zero, suc, ◌+◌, ◌*◌, ◌≤◌, ◌<◌}
+use Prim.Native.Nat.{ℕ, zero, suc, ◌+◌, ◌<◌}
 use mathlib.Core.Path.{◌≡◌, refl, sym, ap, ◌∙◌}
 use mathlib.Core.Logic.{by_cases}
 use mathlib.Core.List.{List, [], ◌∷◌, ◌++◌}
@@ -7,16 +7,11 @@ use mathlib.Core.Bool.{Bool, true, false, cond, ◌||◌, or-false, or-true, or_
 use native.Mathlib.Decide.{ℕ_discrete}
 use native.Mathlib.Omega.{arith}
 use native.Mathlib.Numerals.{add-one}
-use native.Mathlib.Nat.{mul-suc, mul-le-mul_left}
 use lib.ListN.{length, get_or, take}
 use lib.Seq.{take-suc}
 use lib.Dec.{eqb}
 use borrow.Author.Tests.{eq-eqb, ne_eqb}
 use Rattle.certificates.specs.Signers.{member, shared}
-
--- an entry lies within a list of n entries of k bytes
-pub entry-within : (k n i : ℕ) → i < n → k * i + k ≤ k * n
-entry-within k n i h = omega (arith, mul-suc k i, mul-le-mul_left k h)
 
 pub member-snoc : (p : ℕ) (ps : List ℕ) (q : ℕ) → member p (ps ++ q ∷ []) ≡ (member p ps || eqb p q)
 unfolding member
@@ -34,9 +29,9 @@ member-take p (x ∷ ps) (suc i) (suc j) h l e = rw (member-take p ps i j (omega
 -- a place that is among the first i stands at one of them
 pub member-index : (p : ℕ) (ps : List ℕ) (i : ℕ) → member p (take i ps) ≡ true → (j : ℕ) × (j < i) × (j < length ps) × (get_or ps j 0 ≡ p)
 unfolding member
-member-index p [] zero h = absurd (let z : ◌≡◌ {A = ℕ} 0 1 = cc in omega arith)
-member-index p [] (suc i) h = absurd (let z : ◌≡◌ {A = ℕ} 0 1 = cc in omega arith)
-member-index p (x ∷ ps) zero h = absurd (let z : ◌≡◌ {A = ℕ} 0 1 = cc in omega arith)
+member-index p [] zero h = absurd (cc)
+member-index p [] (suc i) h = absurd (cc)
+member-index p (x ∷ ps) zero h = absurd (cc)
 member-index p (x ∷ ps) (suc i) h =
     by_cases (ℕ_discrete p x)
     (λ e. (0, omega arith, omega arith, sym e))

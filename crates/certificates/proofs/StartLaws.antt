@@ -77,9 +77,9 @@ pub record PassedWord (body : List ℕ) (a b i : ℕ) : Type 0 where
   pub next : Compared body a b (i + word_len)
 
 from-word : (s p q : Bool) (m n : ℕ) → true ≡ cond s false (cond p (cond q (eqb m n) false) false) → (s ≡ false) × (p ≡ true) × (q ≡ true) × (m ≡ n)
-from-word true p q m n e = absurd (let z : ◌≡◌ {A = ℕ} 0 1 = cc in omega arith)
-from-word false false q m n e = absurd (let z : ◌≡◌ {A = ℕ} 0 1 = cc in omega arith)
-from-word false true false m n e = absurd (let z : ◌≡◌ {A = ℕ} 0 1 = cc in omega arith)
+from-word true p q m n e = absurd (cc)
+from-word false false q m n e = absurd (cc)
+from-word false true false m n e = absurd (cc)
 from-word false true true m n e = (refl, refl, refl, eqb-true m n (sym e))
 
 -- a number of w + 1 bytes is its lowest byte, and the others
@@ -122,34 +122,9 @@ module _ (body : List ℕ) (bytes : (i : ℕ) → get_or body i 0 < 256) where
       let v : le (take word_len (drop y body)) ≡ num_at word_len body y = num-within body y word_len refl hy in
       record { long = long; next = compared-bytes word_len k long hx hy (u ∙ g.3 ∙ sym v) }
 
--- the ways out of a look at two words
-module _ (body : List ℕ) (x y left : ℕ) where
-  pub word-short : left < word_len → false ≡ same_word body x y left
-  unfolding same_word
-  word-short h = rw (lt-ltb left word_len h)
-
-  pub word_read : {t u : Bool} {m n : ℕ} → word_len ≤ left → t ≡ leb (x + word_len) (length body) → t ≡ true → u ≡ leb (y + word_len) (length body) → u ≡ true
-      → m ≡ num_at word_len body x → n ≡ num_at word_len body y → eqb m n ≡ same_word body x y left
-  unfolding same_word
-  word_read h e t f u g k = rw (le-ltb left word_len h, ← e, t, ← f, u, g, k)
-
-  pub word-past-x : {t : Bool} → word_len ≤ left → t ≡ leb (x + word_len) (length body) → t ≡ false → false ≡ same_word body x y left
-  unfolding same_word
-  word-past-x h e t = rw (le-ltb left word_len h, ← e, t)
-
-  pub word-past-y : {t u : Bool} → word_len ≤ left → t ≡ leb (x + word_len) (length body) → t ≡ true → u ≡ leb (y + word_len) (length body) → u ≡ false
-      → false ≡ same_word body x y left
-  unfolding same_word
-  word-past-y h e t f u = rw (le-ltb left word_len h, ← e, t, ← f, u)
-
 -- keys of which those before key i are below the next: from key i - 1 on they ascend where all do
 pub record Ascended (body : List ℕ) (n i : ℕ) : Type 0 where
   pub rest : ascending (keys_from (n + 1 - i) body (members_at + member_len * i - member_len)) ≡ ascending (keys_from n body members_at)
-
-pub ascended-none : (body : List ℕ) (n : ℕ) → Ascended body n 1
-ascended-none body n =
-    let e : n + 1 - 1 ≡ n = omega arith in
-    record { rest = rw e }
 
 first_keys : (body : List ℕ) (j at : ℕ) → ascending (keys_from (suc (suc j)) body at)
     ≡ cond (below (key_at body at) (key_at body (at + member_len))) (ascending (keys_from (suc j) body (at + member_len))) false
@@ -226,8 +201,8 @@ module _ (body : List ℕ) {n own : ℕ} (e : n ≡ member_count body) (f : own 
 
 from-tests : (keys own : Bool) (r : Option Stake) (t : Stake) → cond keys (cond own r None) None ≡ Some t → (own ≡ true) × (r ≡ Some t)
 from-tests true true r t e = (refl, e)
-from-tests true false r t e = absurd (let z : ◌≡◌ {A = ℕ} 0 1 = cc in omega arith)
-from-tests false own r t e = absurd (let z : ◌≡◌ {A = ℕ} 0 1 = cc in omega arith)
+from-tests true false r t e = absurd (cc)
+from-tests false own r t e = absurd (cc)
 
 pub record Started (body : List ℕ) (t : Stake) : Type 0 where
   pub some : 0 < member_count body
@@ -294,9 +269,6 @@ loaded-setup n body t h e =
 pub record Loaded (n : ℕ) (body : List ℕ) (i : ℕ) (stakes : List ℕ) : Type 0 where
   pub size : length stakes ≡ n
   pub first : take i stakes ≡ take i (loaded_stakes n body)
-
-pub loaded-none : (body stakes : List ℕ) → Loaded (length stakes) body 0 stakes
-loaded-none body stakes = record { size = refl; first = refl }
 
 module _ {n : ℕ} {body : List ℕ} {i : ℕ} {stakes : List ℕ} (k : Loaded n body i stakes) where
   pub loaded-more : (x : ℕ) → i < length stakes → x ≡ stake_of (stakes_in body) i → Loaded n body (i + 1) (set stakes i x)

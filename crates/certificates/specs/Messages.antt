@@ -8,6 +8,7 @@
 --     is_whole f part      whether the bytes hold the whole list
 --     unknown_to m p       whether place p is no member with stake
 --     settled_of settled_by  the quorum, then the verdict: of a list of places, of a set of signers
+--     settled_if           the same of the set that a walk over a list made, or the walk's refusal
 --     check_from           the rest of a list of places, after those seen
 --     check_part f m need part   a certificate of the form f
 --     qc_check tc_check    a QC, a TC
@@ -18,7 +19,7 @@ use Rattle.std.specs.Prelude.{ℕ, ◌+◌, ◌*◌, List, [], ◌∷◌, ◌++�
 use Rattle.certificates.specs.declared.numbers.Hash.{Hash}
 use Rattle.certificates.specs.declared.numbers.Signers.{Signers}
 use Rattle.certificates.specs.declared.numbers.Stake.{Stake}
-use Rattle.certificates.specs.declared.messages.Form.{Form}
+pub use Rattle.certificates.specs.declared.messages.Form.{Form}
 use Rattle.certificates.specs.declared.error.CertificateError.{CertificateError}
 use Rattle.certificates.specs.declared.error.CertificateError.TheVariants.{AuthorityReuse, UnknownAuthority, RequiresQuorum, InvalidSignature, Cut}
 use Rattle.certificates.specs.declared.error.AuthorError.{AuthorError}
@@ -66,6 +67,10 @@ settled_of m need verdict ps = cond (ltb (stake_on m ps) need) (Err RequiresQuor
 
 unfoldable pub settled_by : List ℕ → ℕ → Bool → Signers → Result Signers CertificateError
 settled_by m need verdict s = cond (ltb (weight_of m s) need) (Err RequiresQuorum) (cond verdict (Ok s) (Err InvalidSignature))
+
+abbrev pub settled_if : List ℕ → ℕ → Bool → Result Signers CertificateError → Result Signers CertificateError
+settled_if m need verdict (Ok s) = settled_by m need verdict s
+settled_if m need verdict (Err e) = Err e
 
 -- "walk signers in order, at each one REUSE first, then UNKNOWN"
 unfoldable pub check_from : List ℕ → ℕ → Bool → List ℕ → List ℕ → Result Signers CertificateError

@@ -1,12 +1,12 @@
 // Certificates: messages.rs. The QC's equality with genesis, the checks of a QC and of a TC in the
 // bytes of a record, and the check of an author that a block, a vote and a timeout share.
-ghost use Rattle.std.specs.Prelude.{◌≡◌, ◌+◌, ◌*◌, ◌≤◌, [], length};
+ghost use Rattle.std.specs.Prelude.{◌≡◌, ℕ, ◌+◌, ◌*◌, ◌≤◌, [], Bool, length};
 ghost use Rattle.certificates.specs.Num.{num_at, nums_at};
-ghost use Rattle.certificates.specs.Messages.{is_genesis, author_check, unknown_to, settled_by, check_from, check_part, qc_check, tc_check, equals_genesis, embedded_check};
+ghost use Rattle.certificates.specs.Messages.{is_genesis, author_check, unknown_to, settled_by, settled_if, check_from, check_part, qc_check, tc_check, equals_genesis, embedded_check};
 
 use crate::config::{MEMBERS_MAX, stake};
 use crate::error::{AuthorError, CertificateError};
-use crate::num::{hash_at, raw16, u8_at, u16_at, u64_at};
+use crate::num::{hash_at, u8_at, u16_at, u64_at};
 use crate::numbers::{Hash, Place, Round, Signers, Stake};
 use crate::signers::weight;
 
@@ -61,7 +61,8 @@ fn place_at(form: Form, part: &[u8], i: usize) -> Place
     requires { form.at + 3 + form.stride * i + 2 ≤ length part.now }
     ensures { result.0 ≡ num_at 2 part.now (form.at + 3 + form.stride * i) }
 {
-    Place(raw16(part, form.at + 3 + form.stride * i))
+    let at = form.at + 3 + form.stride * i;
+    Place(u16::from_le_bytes([part[at], part[at + 1]]))
 }
 
 // Whether a place is no member with stake. A signer set has room for no place past the limit.
@@ -93,17 +94,15 @@ fn settle(
     }
 }
 
-// The list of `n` signers: at the first repeat, and at the first unknown place, it is refused.
-fn check_list(
+// The `n` signers of the list: at the first repeat, and at the first unknown place, it is refused.
+fn signers_in(
     form: Form,
     members: &[u32],
-    need: Stake,
     part: &[u8],
     n: usize,
-    verdict: bool,
 ) -> Result<Signers, CertificateError>
     requires { (2 ≤ form.stride) × (form.at + 3 + form.stride * n ≤ length part.now) }
-    ensures { result ≡ check_from members.now need.0 verdict [] (nums_at 2 form.stride n part.now (form.at + 3)) }
+    ensures { (need : ℕ) (verdict : Bool) → settled_if members.now need verdict result ≡ check_from members.now need verdict [] (nums_at 2 form.stride n part.now (form.at + 3)) }
 {
     let mut word: u64 = 0;
     for i in 0..n {
@@ -118,7 +117,7 @@ fn check_list(
         }
         word |= 1u64 << p.0;
     }
-    settle(members, need, verdict, Signers(word))
+    Ok(Signers(word))
 }
 
 // A certificate of a form: verdict 1, count 2, then the entries.
@@ -136,7 +135,8 @@ fn check_part(
     if part.len() < form.at + 3 + form.stride * n {
         return Err(CertificateError::Cut);
     }
-    check_list(form, members, need, part, n, verdict == 1)
+    let signers = signers_in(form, members, part, n)?;
+    settle(members, need, verdict == 1, signers)
 }
 
 // QC::verify.

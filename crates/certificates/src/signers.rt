@@ -10,7 +10,7 @@ use crate::numbers::{Place, Signers};
 pub fn count(s: Signers) -> u32
     ensures { result ≡ ones s.0 }
 {
-    u64::count_ones(s.0)
+    s.0.count_ones()
 }
 
 // The stake of the signers.
@@ -20,7 +20,7 @@ pub fn weight(members: &[u32], s: Signers) -> u64
     let mut left = s.0;
     let mut sum: u64 = 0;
     while left != 0 {
-        let p = u64::trailing_zeros(left);
+        let p = left.trailing_zeros();
         let held = stake(members, Place(p as u16));
         sum += held.0 as u64;
         left -= 1u64 << p;

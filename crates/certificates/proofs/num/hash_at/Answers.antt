@@ -1,14 +1,6 @@
--- `certificates::num::hash_at` meets its contract: the test of the room says which case of `hash_at` holds.
--- Assumes nothing.
-use Rattle.certificates.proofs.Bytes.{tested, hash-in, hash-out}
-use borrow.Author.Rules.{rules}
+-- `certificates::num::hash_at` meets its contract: a hash is four numbers of its bytes. Assumes nothing.
+use Rattle.certificates.proofs.Bytes.{hash-bytes}
 use Rattle.certificates.proofs.num.hash_at.Goals as goal
 
-pub raw_hash-requires : goal.raw_hash-requires
-raw_hash-requires c = search (rules, tested)
-
-pub returns-then-holds : goal.returns-then-holds
-returns-then-holds c = search (rules, hash-in)
-
-pub returns-else-holds : goal.returns-else-holds
-returns-else-holds c = search (rules, hash-out)
+pub returns : goal.returns
+returns c = hash-bytes _ _ c.bytes_at-bytes.ensures c.u64_at.ensures c.u64_at-2.ensures c.u64_at-3.ensures c.u64_at-4.ensures

@@ -1,15 +1,7 @@
--- `certificates::num::u32_at` meets its contract: the test of the room says which case of `num_at` holds.
--- Assumes nothing.
-use Rattle.certificates.proofs.Bytes.{tested}
-use Rattle.certificates.proofs.Bytes.{num-in, num-out}
+-- `certificates::num::u32_at` meets its contract: the library's number of the bytes is that of the definition. Assumes nothing.
 use borrow.Author.Rules.{rules}
+use Rattle.certificates.proofs.Bytes.{from-bytes}
 use Rattle.certificates.proofs.num.u32_at.Goals as goal
 
-pub raw32-requires : goal.raw32-requires
-raw32-requires c = search (rules, tested)
-
-pub returns-then-holds : goal.returns-then-holds
-returns-then-holds c = search (rules, num-in)
-
-pub returns-else-holds : goal.returns-else-holds
-returns-else-holds c = search (rules, num-out)
+pub returns : goal.returns
+returns c = from-bytes _ _ 3 c.bytes_at.result c.from_le_bytes.ensures (search rules) c.bytes_at.ensures

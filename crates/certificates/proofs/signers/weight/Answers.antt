@@ -1,43 +1,24 @@
 -- `certificates::signers::weight` meets its contract. The loop's invariant: what has been summed and the stake of what is left of the word make
 -- the stake of the whole word. Each turn takes the lowest place off what is left, which is the measure. Assumes nothing.
 use native.Mathlib.Omega.{arith}
-use Prim.Native.Nat.{◌^◌, ◌<◌}
 use mathlib.Core.Path.{◌≡◌}
-use lib.ListN.{take}
 use lib.Count.{count_trailing_zeros}
-use Rattle.certificates.specs.Signers.{word_bits, sum_at}
+use Rattle.certificates.specs.Signers.{word_bits}
 use Rattle.certificates.proofs.Sets.{Lowest, lowest, word_small, word_none, word-weight}
 use Rattle.certificates.proofs.signers.weight.Goals as goal
-use Rattle.certificates.proofs.signers.weight.Goals.{After-shared_slice_known-1, In-loop-left}
-
--- what the whole word is worth fits
-whole : (c : After-shared_slice_known-1) → sum_at (take word_bits c.args.members.now) c.args.s.0 < 2 ^ 64
-whole c = word_small c.args.members.now c.args.s.0 (λ i. (c.type_inv.members i).fits)
+use Rattle.certificates.proofs.signers.weight.Goals.{In-loop-left}
 
 -- the lowest place of what is left, in a turn
 low : (c : In-loop-left) → Lowest c.args.members.now c.loop-left.left (count_trailing_zeros word_bits c.loop-left.left)
 low c = lowest c.args.members.now c.loop-left.left (omega arith) (omega arith)
 
-pub loop-left-init : goal.loop-left-init
-loop-left-init c = omega arith
-
-pub overflow_cast-p : goal.overflow_cast-p
-overflow_cast-p c = omega (arith, low (goal.at.overflow_cast-p c).In-loop-left)
-
 pub overflow_add-sum : goal.overflow_add-sum
-overflow_add-sum c = omega (arith, low (goal.at.overflow_add-sum c).In-loop-left, whole (goal.at.overflow_add-sum c).After-shared_slice_known-1)
-
-pub overflow_cast-left : goal.overflow_cast-left
-overflow_cast-left c = omega (arith, low (goal.at.overflow_cast-left c).In-loop-left)
-
-pub overflow_shl-left : goal.overflow_shl-left
-overflow_shl-left c = omega (arith, low (goal.at.overflow_shl-left c).In-loop-left)
+overflow_add-sum c =
+    let whole = word_small c.args.members.now c.args.s.0 (λ i. (c.type_inv.members i).fits) in
+    omega (arith, low (goal.at.overflow_add-sum c).In-loop-left, whole)
 
 pub overflow_sub-left : goal.overflow_sub-left
 overflow_sub-left c = omega (arith, low (goal.at.overflow_sub-left c).In-loop-left)
-
-pub loop-left-smaller : goal.loop-left-smaller
-loop-left-smaller c = omega (arith, low (goal.at.loop-left-smaller c).In-loop-left)
 
 pub loop-left-preserved : goal.loop-left-preserved
 loop-left-preserved c = rw (low (goal.at.loop-left-preserved c).In-loop-left).shifted (omega (arith, low (goal.at.loop-left-preserved c).In-loop-left))

@@ -1,4 +1,4 @@
--- `certificates::messages::check_list` meets its contract: where a signer is refused, and where the signers end, what is then known picks the case of
+-- `certificates::messages::signers_in` meets its contract: where a signer is refused, and where the signers end, what is then known picks the case of
 -- the definition. Assumes nothing.
 use native.Mathlib.Omega.{arith}
 use Prim.Native.Nat.{ℕ, ◌+◌, ◌*◌, ◌≤◌, ◌<◌}
@@ -14,8 +14,8 @@ use Rattle.certificates.proofs.Places.{member-more}
 use Rattle.certificates.proofs.Words.{shift_one}
 use Rattle.certificates.proofs.Clean.{signed-none, signed-take}
 use Rattle.certificates.proofs.Check.{known, walk_none, at-end, at-repeat, at-unknown, at-known}
-use Rattle.certificates.proofs.messages.check_list.Goals as goal
-use Rattle.certificates.proofs.messages.check_list.Goals.{After-place_at-p}
+use Rattle.certificates.proofs.messages.signers_in.Goals as goal
+use Rattle.certificates.proofs.messages.signers_in.Goals.{After-place_at-p}
 
 -- Where the signer at i has been read: the places, and the signer's own place.
 abbrev places : After-place_at-p → List ℕ
@@ -41,7 +41,7 @@ fresh c j low high h =
     rw end at h
 
 pub loop-i-init : goal.loop-i-init
-loop-i-init c = (signed-none _, walk_none _ _ _ _)
+loop-i-init c = (signed-none _, λ need verdict. walk_none _ _ _ _)
 
 pub loop-j-init : goal.loop-j-init
 unfolding member
@@ -67,23 +67,23 @@ loop-i-preserved c =
     let new = fresh r c.loop-j.j (omega arith) (omega arith) c.loop-j.invariant in
     rw (shift_one (signer r) inside.small) (
       signed-take r.args.members.now (places r) r.loop-i.i record { 0 = r.loop-i.word } (signer r) (here r) (within r) r.loop-i.invariant.0 new inside.small,
-      at-known r.loop-i.invariant.1 (signer r) (here r) (within r) new some,
+      λ need verdict. at-known (r.loop-i.invariant.1 need verdict) (signer r) (here r) (within r) new some,
     )
 
 pub returns : goal.returns
 returns c =
     let a = c.args in
     let s = c.loop-i in
-    at-end s.invariant.1 record { 0 = s.word } (omega (arith, length-nums 2 a.form.stride a.n a.part.now (a.form.at + 3))) s.invariant.0 c.settle.ensures
+    λ need verdict. at-end (s.invariant.1 need verdict) record { 0 = s.word } (omega (arith, length-nums 2 a.form.stride a.n a.part.now (a.form.at + 3))) s.invariant.0
 
 pub returns-then-eq : goal.returns-then-eq
 returns-then-eq c =
     let r = (goal.at.returns-then-eq c).After-place_at-p in
     let same = eqb-true _ _ (sym c.eq.ensures ∙ c.if-eq.true) in
-    at-repeat r.loop-i.invariant.1 (signer r) (here r) (within r) c.loop-j.j (omega arith) (omega (arith, place_is r c.loop-j.j (omega arith)))
+    λ need verdict. at-repeat (r.loop-i.invariant.1 need verdict) (signer r) (here r) (within r) c.loop-j.j (omega arith) (omega (arith, place_is r c.loop-j.j (omega arith)))
 
 pub returns-then-is_unknown : goal.returns-then-is_unknown
 returns-then-is_unknown c =
     let r = (goal.at.returns-then-is_unknown c).After-place_at-p in
     let new = fresh r c.loop-j.j (omega arith) (omega arith) c.loop-j.invariant in
-    at-unknown r.loop-i.invariant.1 (signer r) (here r) (within r) new (sym c.is_unknown.ensures ∙ c.if-is_unknown.true)
+    λ need verdict. at-unknown (r.loop-i.invariant.1 need verdict) (signer r) (here r) (within r) new (sym c.is_unknown.ensures ∙ c.if-is_unknown.true)
