@@ -11,7 +11,7 @@ handle_proposal-r-requires c =
 
 pub returns-then-is_ok : goal.returns-then-is_ok
 returns-then-is_ok c =
-    propose-goes _ _ _ _ _ _ _ c.block_of-b.ensures c.payload_of-payload.ensures c.handle_proposal-r.ensures (sym c.is_ok.ensures ∙ c.if-is_ok.true) c.requires.0 c.requires.2
+    propose-goes _ _ _ _ _ _ _ c.block_of-b.ensures c.payload_of-payload.ensures c.handle_proposal-r.ensures (sym c.is_ok.ensures.value ∙ c.if-is_ok.true) c.requires.0 c.requires.2
 
 pub returns : goal.returns
 returns c = search (rules, propose-ends)
