@@ -43,15 +43,7 @@ fn find<K: Key>(table: &[u64], key: K) -> Option<usize>
     requires { length table.now ≡ K.TALLIES * K.WIDTH }
     ensures { FoundAs (find_row (K.test key) K.WIDTH K.TALLIES table.now) K.TALLIES result }
 {
-    // `chunks_exact` with `position` is slower.
-    for i in 0..K::TALLIES {
-        let from = i * K::WIDTH;
-        let to = from + K::WIDTH;
-        if key.is_of(&table[from..to]) {
-            return Some(i);
-        }
-    }
-    None
+    table.chunks_exact(K::WIDTH).position(|t| key.is_of(t))
 }
 
 // The lowest tally that is not in use.
@@ -59,13 +51,7 @@ fn find_free<K: Key>(table: &[u64]) -> Option<usize>
     requires { length table.now ≡ K.TALLIES * K.WIDTH }
     ensures { FoundAs (find_free K.WIDTH K.TALLIES table.now) K.TALLIES result }
 {
-    // As in `find`.
-    for i in 0..K::TALLIES {
-        if table[i * K::WIDTH + USED] == 0 {
-            return Some(i);
-        }
-    }
-    None
+    table.chunks_exact(K::WIDTH).position(|t| t[USED] == 0)
 }
 
 // The tally in row i opened for the key.
