@@ -4,8 +4,9 @@ ghost use Rattle.std.specs.Prelude.{◌+◌, ◌*◌, ◌≤◌, ◌++◌, ◌�
 ghost use Rattle.std.specs.Int.Count.{ones};
 ghost use Rattle.outputs.specs.Fields.{digits, hash_bytes, bytes_of};
 ghost use Rattle.outputs.specs.Put.{Put};
-ghost use Rattle.outputs.specs.Records.{members_max, qc_fields, places_of, entries, tc_fields};
+ghost use Rattle.outputs.specs.Records.{members_max, qc_fields, places_of, entries, tc_fields, code_of};
 
+use crate::records::Kind;
 use certificates::messages::QC;
 use certificates::numbers::{Hash, Round, Signers};
 
@@ -43,12 +44,12 @@ pub(crate) fn put64(out: &mut [u8], at: usize, x: u64) -> usize
 }
 
 // A record's length and kind.
-pub(crate) fn put_head(out: &mut [u8], at: usize, len: u16, kind: u16) -> usize
+pub(crate) fn put_head(out: &mut [u8], at: usize, len: u16, kind: Kind) -> usize
     requires { at + 4 ≤ length out.old }
-    ensures { Put out.old at 4 (digits 2 len ++ digits 2 kind) out.new result }
+    ensures { Put out.old at 4 (digits 2 len ++ digits 2 (code_of kind)) out.new result }
 {
     let mid = put16(out, at, len);
-    put16(out, mid, kind)
+    put16(out, mid, kind as u16)
 }
 
 pub(crate) fn put_hash(out: &mut [u8], at: usize, h: Hash) -> usize
