@@ -154,7 +154,7 @@ pub fn cleanup(v: &mut [u64], w: usize, n: usize, round: Round)
     requires { (fields ≤ w) × (n * w ≤ length v.old) }
     ensures { v.new ≡ dropped w n v.old round.0 }
 {
-    // By `chunks_exact_mut` the proof does not close: once the chunks are back it knows their length only.
+    // By `chunks_exact_mut` the proof does not close: it does not see what the rows were made.
     for i in 0..n {
         let from = i * w;
         let to = from + w;
@@ -177,7 +177,7 @@ pub fn cleanup_timeouts(timeouts: &mut [u64], round: Round)
 }
 
 // Every bit that the weight of some of n tallies has, each w wide. Every event asks for it: over a
-// `K: Key`, and by `chunks_exact` with `fold`, it is slower.
+// `K: Key` it is slower, by `chunks_exact` and `fold` too.
 fn weights_of(v: &[u64], w: usize, n: usize) -> u64
     requires { (fields ≤ w) × (n * w ≤ length v.now) }
     ensures { result ≡ joined w n v.now }

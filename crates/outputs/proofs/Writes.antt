@@ -1,9 +1,10 @@
 -- The laws of `digits`, of runs of stores, and of `Put`. Assumes nothing.
---     le_digits, length_digits   the bytes of a number, as `to_le_bytes` has them; how many they are
+--     le_digits, one-digit       the bytes of a number, as `to_le_bytes` has them; of a byte
+--     length_digits              how many they are
 --     sets-append                a run of stores, and then one behind it
 --     sets_behind                the same, the run behind stored first
 --     take-sets, drop-sets       what lies before and behind a run is as it was
---     nothing, byte              nothing, or one byte, was written
+--     nothing                    nothing was written
 --     then                       THE LAW: two writes in a row are one of both
 --     joins                      the same as `search` applies it
 --     part-put                   bytes that are copied to a part
@@ -68,10 +69,6 @@ take-sets (x ∷ xs) l i n h = take-sets xs (set l i x) (suc i) n (omega arith) 
 pub drop-sets : (xs l : List ℕ) (i n : ℕ) → i + length xs ≤ n → drop n (sets l i xs) ≡ drop n l
 drop-sets [] l i n h = refl
 drop-sets (x ∷ xs) l i n h = drop-sets xs (set l i x) (suc i) n (omega arith) ∙ drop-set-lt n l i x (omega arith)
-
--- a store
-pub one_byte : (l : List ℕ) (at x : ℕ) → Put l at 1 (x ∷ []) (set l at x) (at + 1)
-one_byte l at x = record { place = refl; size = refl; stored = refl }
 
 -- nothing
 pub nothing : (l : List ℕ) (at : ℕ) → Put l at 0 [] l at
