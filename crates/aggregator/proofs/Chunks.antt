@@ -1,6 +1,7 @@
--- What an iterator over the rows of a table finds: `chunks_exact` with `any`. Nothing here knows what a row means. In order:
+-- What an iterator over the rows of a table finds: `chunks_exact` with `position`, or with `any`. Nothing here knows what a row means. In order:
 --     item-row, some_item     the items are the rows
---     chunks-any              whether some row passes
+--     chunks-position         the lowest row that passes
+--     chunks-any              whether there is one
 -- Assumes nothing.
 use Prim.Native.Nat.{ℕ, ◌+◌, ◌*◌, ◌/◌, ◌≤◌, ◌<◌}
 use mathlib.Core.Bool.{Bool, true, false}
@@ -12,14 +13,14 @@ use native.Mathlib.Omega.{arith}
 use denote.Param.Members.{Mut, Called}
 use denote.Ref.{Bor}
 use lib.ListN.{length}
-use Rattle.std.proofs.Common.{Some, MatchBool, IsSomeAnd, is_some}
+use Rattle.std.proofs.Common.{Option, Some, None, MatchOption, MatchBool, IsSomeAnd, is_some}
 use Rattle.std.proofs.iter.runs.Made.{at-is}
 use Rattle.std.proofs.lemmas.Option.{slice_get_cases}
-use Rattle.std.specs.Iterator.Runs.{Run, SomeRun, EveryRun, IsChunksExactRun, CallKeepsClosure, AllItemsGive, AnyItemGives}
+use Rattle.std.specs.Iterator.Runs.{Run, SomeRun, EveryRun, IsChunksExactRun, CallKeepsClosure, AllItemsGive, AnyItemGives, IsFirstToGive}
 use Rattle.std.specs.Slice.Iter.{chunks_exact_rest, chunks_exact_size, chunks_exact_steps}
 use Rattle.std.specs.declared.slice.ChunksExact.{ChunksExact}
-use Rattle.aggregator.specs.Rows.{row, lowest}
-use Rattle.aggregator.proofs.Rows.{lowest-some, none-found}
+use Rattle.aggregator.specs.Rows.{row, lowest, FoundAs}
+use Rattle.aggregator.proofs.Rows.{lowest-found, lowest-some, none-found}
 
 module _ (p : Run (chunks_exact_steps {A = ℕ})) where
   item-row : (w : ℕ) (v : List ℕ) → IsChunksExactRun p w v → (k : ℕ) (x : Bor (List ℕ)) → p.at k ≡ Some x → (k * w + w ≤ length v) × (x.now ≡ row w v k)
@@ -56,6 +57,15 @@ module _ (w n : ℕ) (v : List ℕ) (long : length v ≡ n * w) (wide : 0 < w) (
       let all : p.len ≡ n = every p w n v long wide (cut p e) whole in
       let x = some_item p j (omega arith) in
       asked p e false j x.0 x.1 (rw x.1 (rw x.1 at (h same_closure j)))
+
+  pub chunks-position : (r : Option ℕ) → SomeRun (chunks_exact_steps {A = ℕ}) s (λ u. MatchOption r ((u.whole ≡ true) × AllItemsGive u g f false) (λ i. (u.len ≡ i + 1) × IsFirstToGive u g f true false i))
+      → FoundAs (lowest test w v n 0) n r
+  chunks-position None (p, e, h) = none-found test w v n (none_passes p e h.0 h.1)
+  chunks-position (Some i) (p, e, h) =
+      let x = some_item p i (omega (arith, h.0)) in
+      let first = h.1 same_closure in
+      lowest-found test w v n i (item_below p w n v long wide (cut p e) i x.0 x.1) (asked p e true i x.0 x.1 first.0)
+      (λ j l. let y = some_item p j (omega (arith, h.0)) in asked p e false j y.0 y.1 (first.1 j l))
 
   pub chunks-any : (r : Bool) → SomeRun (chunks_exact_steps {A = ℕ}) s (λ u. MatchBool r (AnyItemGives u g f true) ((u.whole ≡ true) × AllItemsGive u g f false))
       → r ≡ is_some (lowest test w v n 0)

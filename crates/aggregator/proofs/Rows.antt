@@ -12,7 +12,7 @@ use Prim.Native.Nat.{ℕ, zero, suc, ◌+◌, ◌-◌, ◌*◌, ◌%◌, ◌^◌
 use mathlib.Core.Bool.{Bool, true, false, cond}
 use mathlib.Core.List.{List, [], ◌++◌, append_assoc, append-nil}
 use mathlib.Core.Logic.{⊎_elim}
-use Rattle.std.proofs.Common.{Option, Some, None, is_some, below_more}
+use Rattle.std.proofs.Common.{Option, Some, None, is_some}
 use mathlib.Core.Path.{◌≡◌, refl, ap, sym, ◌∙◌}
 use native.Mathlib.Nat.{zero-mul, suc-mul, add_comm, mul-le-mul_right, one-mul, eq-or-lt_of_le}
 use native.Mathlib.Numerals.{add-one}
@@ -87,25 +87,6 @@ lowest-some p w v n i l h = cases (lowest p w v n 0) refl
 -- where no row of the table passes
 pub none-found : (p : List ℕ → Bool) (w : ℕ) (v : List ℕ) (n : ℕ) → ((j : ℕ) → j < n → p (row w v j) ≡ false) → FoundAs (lowest p w v n 0) n None
 none-found p w v n h = record { is = sym (none-lowest p w v n 0 (λ j a b. h j (omega arith))); below = λ j q. let z : ◌≡◌ {A = ℕ} 0 1 = cc in omega arith }
-
--- no row before row i passes
-pub record Missed (p : List ℕ → Bool) (w : ℕ) (v : List ℕ) (i : ℕ) : Type 0 where
-  pub none : (j : ℕ) → j < i → p (row w v j) ≡ false
-
-module _ (p : List ℕ → Bool) (w : ℕ) (v : List ℕ) where
-  pub missed-start : Missed p w v 0
-  missed-start = record { none = λ j l. absurd (omega arith) }
-
-  module _ {i : ℕ} (m : Missed p w v i) where
-    pub missed-more : p (row w v i) ≡ false → Missed p w v (i + 1)
-    missed-more e = record { none = below_more _ _ m.none e }
-
-    module _ (n : ℕ) where
-      pub missed-hit : i < n → p (row w v i) ≡ true → FoundAs (lowest p w v n 0) n (Some i)
-      missed-hit l e = lowest-found p w v n i l e m.none
-
-      pub missed-end : n ≤ i → FoundAs (lowest p w v n 0) n None
-      missed-end l = none-found p w v n (λ j h. m.none j (omega arith))
 
 -- ---- a row that is lent as a part
 

@@ -50,15 +50,7 @@ fn find<K: Key>(table: &[u64], key: K) -> Option<usize>
     requires { length table.now ≡ K.TALLIES * K.WIDTH }
     ensures { FoundAs (find_row (K.test key) K.WIDTH K.TALLIES table.now) K.TALLIES result }
 {
-    // `chunks_exact` with `position` is slower.
-    for i in 0..K::TALLIES {
-        let from = i * K::WIDTH;
-        let to = from + K::WIDTH;
-        if key.is_of(&table[from..to]) {
-            return Some(i);
-        }
-    }
-    None
+    table.chunks_exact(K::WIDTH).position(|t| key.is_of(t))
 }
 
 // The lowest tally that is not in use.
@@ -66,13 +58,7 @@ fn find_free<K: Key>(table: &[u64]) -> Option<usize>
     requires { length table.now ≡ K.TALLIES * K.WIDTH }
     ensures { FoundAs (find_free K.WIDTH K.TALLIES table.now) K.TALLIES result }
 {
-    // As in `find`.
-    for i in 0..K::TALLIES {
-        if table[i * K::WIDTH + USED] == 0 {
-            return Some(i);
-        }
-    }
-    None
+    table.chunks_exact(K::WIDTH).position(|t| t[USED] == 0)
 }
 
 // The tally in row i opened for the key.
@@ -175,7 +161,7 @@ pub fn cleanup(v: &mut [u64], w: usize, n: usize, round: Round)
     requires { (fields ≤ w) × (n * w ≤ length v.old) }
     ensures { v.new ≡ dropped w n v.old round.0 }
 {
-    // By `chunks_exact_mut` the proof does not close: once the chunks are back it knows their length only.
+    // By `chunks_exact_mut` the proof does not close: it does not see what the rows were made.
     for i in 0..n {
         let from = i * w;
         let to = from + w;
@@ -198,7 +184,7 @@ pub fn cleanup_timeouts(timeouts: &mut [u64], round: Round)
 }
 
 // Every bit that the weight of some of n tallies has, each w wide. Every event asks for it: over a
-// `K: Key`, and by `chunks_exact` with `fold`, it is slower.
+// `K: Key` it is slower, by `chunks_exact` and `fold` too.
 fn weights_of(v: &[u64], w: usize, n: usize) -> u64
     requires { (fields ≤ w) × (n * w ≤ length v.now) }
     ensures { result ≡ joined w n v.now }

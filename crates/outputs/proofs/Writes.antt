@@ -1,38 +1,42 @@
 -- The laws of `digits`, of runs of stores, and of `Put`. Assumes nothing.
---     halves, length_digits      the bytes of a number, by its two parts; how many they are
+--     le_digits, one-digit       the bytes of a number, as `to_le_bytes` has them; of a byte
+--     length_digits              how many they are
 --     sets-append                a run of stores, and then one behind it
 --     sets_behind                the same, the run behind stored first
 --     take-sets, drop-sets       what lies before and behind a run is as it was
---     nothing, byte              nothing, or one byte, was written
+--     nothing                    nothing was written
 --     then                       THE LAW: two writes in a row are one of both
---     joins, joined              the same as `search` applies it, and for the two parts of a number
+--     joins                      the same as `search` applies it
+--     part-put                   bytes that are copied to a part
 use mathlib.Core.Path.{◌≡◌, refl, sym, ap, ◌∙◌}
-use mathlib.Core.List.{List, [], ◌∷◌, ◌++◌}
-use Prim.Native.Nat.{ℕ, zero, suc, ◌+◌, ◌*◌, ◌/◌, ◌%◌, ◌^◌, ◌≤◌, ◌<◌, zero-le}
-use native.Mathlib.Nat.{zero-add, suc-add, add-zero, add-suc, div-one, pow-suc, mul_comm, div-div-eq-div-mul, mod-eq_of_lt, pow-le-pow_right}
+use mathlib.Core.List.{List, [], ◌∷◌, ◌++◌, append_assoc}
+use Prim.Native.Nat.{ℕ, zero, suc, ◌+◌, ◌-◌, ◌/◌, ◌%◌, ◌^◌, ◌≤◌, ◌<◌}
+use native.Mathlib.Nat.{suc-add, add-zero, add-suc, div-one, pow-suc, div-div-eq-div-mul, mod-eq_of_lt}
 use native.Mathlib.Omega.{arith}
-use lib.ListN.{length, set, take, drop, length-append}
-use lib.Seq.{sets, set_comm, take-set-le, drop-set-lt}
-use lib.Dec.{lit<}
-use lib.Arith.{mod-mul}
+use lib.ListN.{length, set, take, drop, length-append, length-take, length-drop}
+use lib.Seq.{sets, sets-eq, drop-drop, set_comm, take-set-le, drop-set-lt}
+use borrow.Rule.Slice.PartMut.{put_mid}
+use Rattle.std.specs.Int.{bytes_low_first}
 use Rattle.outputs.specs.Fields.{digits}
 use Rattle.outputs.specs.Put.{Put}
 
 -- ---- numbers
 
-pow-256 : (a : ℕ) → 0 < 256 ^ a
-pow-256 a = pow-le-pow_right {n = 256} (lit< tt) {i = 0} {j = a} zero-le
-
--- the bytes of a number are those of its lower part and then those of its upper part
-pub halves : (a b x : ℕ) → digits a (x % 256 ^ a) ++ digits b (x / 256 ^ a) ≡ digits (a + b) x
+-- from byte i on
+low_first : (w i x : ℕ) → bytes_low_first i w x ≡ digits w (x / 256 ^ i)
 unfolding digits
-halves zero b x = rw (zero-add, div-one)
-halves (suc a) b x =
-    let m : x % 256 ^ suc a ≡ (x / 256 % 256 ^ a) * 256 + x % 256 = rw pow-suc (mod-mul x (pow-256 a) (lit< tt)) in
-    let low : x % 256 ^ suc a % 256 ≡ x % 256 = omega arith in
-    let high : x % 256 ^ suc a / 256 ≡ x / 256 % 256 ^ a = omega arith in
-    let top : x / 256 ^ suc a ≡ x / 256 / 256 ^ a = rw (pow-suc, mul_comm, div-div-eq-div-mul) in
-    rw (low, high, top, suc-add) (ap (λ (l : List ℕ). x % 256 ∷ l) (halves a b (x / 256)))
+low_first zero i x = refl
+low_first (suc w) zero x = let one : x / 256 ^ 0 ≡ x = div-one x in rw one (ap (λ (l : List ℕ). x % 256 ∷ l) (low_first w 1 x))
+low_first (suc w) (suc i) x =
+    let next : x / 256 ^ suc i / 256 ≡ x / 256 ^ suc (suc i) = div-div-eq-div-mul x (256 ^ suc i) 256 ∙ ap (λ (n : ℕ). x / n) (sym (pow-suc 256 (suc i))) in
+    rw next (ap (λ (l : List ℕ). x / 256 ^ suc i % 256 ∷ l) (low_first w (suc (suc i)) x))
+
+pub le_digits : (w x : ℕ) → bytes_low_first 0 w x ≡ digits w x
+le_digits w x = low_first w 0 x ∙ ap (λ (n : ℕ). digits w n) (div-one x)
+
+pub one-digit : (x : ℕ) → x < 256 → x ∷ [] ≡ digits 1 x
+unfolding digits
+one-digit x h = rw (mod-eq_of_lt h)
 
 pub length_digits : (w x : ℕ) → length (digits w x) ≡ w
 unfolding digits
@@ -66,10 +70,6 @@ pub drop-sets : (xs l : List ℕ) (i n : ℕ) → i + length xs ≤ n → drop n
 drop-sets [] l i n h = refl
 drop-sets (x ∷ xs) l i n h = drop-sets xs (set l i x) (suc i) n (omega arith) ∙ drop-set-lt n l i x (omega arith)
 
--- a store
-pub one_byte : (l : List ℕ) (at x : ℕ) → Put l at 1 (x ∷ []) (set l at x) (at + 1)
-one_byte l at x = record { place = refl; size = refl; stored = refl }
-
 -- nothing
 pub nothing : (l : List ℕ) (at : ℕ) → Put l at 0 [] l at
 nothing l at = record { place = sym (add-zero at); size = refl; stored = refl }
@@ -87,12 +87,14 @@ then {a} {xs = xs} {ys = ys} {at = at} p q =
 pub joins : {a b c xs ys : List ℕ} {at m n k l s : ℕ} → Put a at m xs b k → Put b k n ys c l → m + n ≡ s → Put a at s (xs ++ ys) c l
 joins p q e = rw (← e) (then p q)
 
--- a number by its two halves
-pub joined : (w v x : ℕ) {a b c : List ℕ} {at k l : ℕ} → Put a at w (digits w (x % 256 ^ w)) b k → Put b k v (digits v (x / 256 ^ w)) c l
-    → Put a at (w + v) (digits (w + v) x) c l
-joined w v x p q = rw (← halves w v x) (then p q)
-
--- one byte
-pub byte : (l : List ℕ) (at : ℕ) {x : ℕ} → x < 256 → Put l at 1 (digits 1 x) (set l at x) (at + 1)
-unfolding digits
-byte l at h = rw (mod-eq_of_lt h) (one_byte l at _)
+-- bytes that are copied to a part
+pub part-put : (l : List ℕ) (at n : ℕ) {bytes part : List ℕ} → at + n ≤ length l → length part ≡ length (take (at + n - at) (drop at l)) → part ≡ bytes
+    → Put l at n bytes (put_mid at (at + n - at) l part) (at + n)
+part-put l at n {bytes} h k e =
+    let size : at + n - at ≡ n = omega arith in
+    let long : length bytes ≡ n = rw (← e, k, size, length-take, length-drop) (omega arith) in
+    record {
+      place = refl;
+      size = long;
+      stored = rw (e, size, sets-eq bytes l at (omega arith), drop-drop, long) (sym (append_assoc (take at l) bytes (drop (at + n) l)));
+    }

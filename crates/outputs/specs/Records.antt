@@ -6,6 +6,7 @@
 --     entries ps highs              the entries of these places in a TC, by the high rounds of all places
 --     tc_fields round names highs   the body of a TC
 --     framed kind body              a record: its length, its kind, its body
+--     code_of k                     the number of a kind
 --     kind_of r, body_of r          the two columns of the table
 --     fields_of r                   the fields of a record
 --     enc r, enc_all rs             the bytes of a record, and of several in a row
@@ -17,6 +18,8 @@ use Rattle.std.specs.Int.Count.{ones}
 use Rattle.certificates.specs.Config as limits
 use Rattle.certificates.specs.declared.numbers.Hash.{Hash}
 use Rattle.certificates.specs.declared.messages.QC.{QC}
+use Rattle.outputs.specs.declared.records.Kind.{Kind}
+use Rattle.outputs.specs.declared.records.Kind.TheVariants.{Vote, Timeout, Tc, Make, Commit, Sync, CleanProposer, CleanMempool, TimerReset, Answer}
 use Rattle.outputs.specs.Fields.{Field, number, hash, bytes_of}
 
 -- Rounds, places, signer words and the answer's number are numbers here; high rounds are listed by place.
@@ -76,6 +79,19 @@ unfoldable pub framed : ℕ → List Field → List Field
 framed kind body = number 2 (2 + length (bytes_of body)) ∷ number 2 kind ∷ body
 
 -- ---- records
+
+-- the number of a kind
+abbrev pub code_of : Kind → ℕ
+code_of Vote = 0x0101
+code_of Timeout = 0x0102
+code_of Tc = 0x0103
+code_of Make = 0x0104
+code_of Commit = 0x0105
+code_of Sync = 0x0106
+code_of CleanProposer = 0x0107
+code_of CleanMempool = 0x0108
+code_of TimerReset = 0x0109
+code_of Answer = 0x010A
 
 abbrev pub kind_of : Rec → ℕ
 kind_of (vote to block round) = 0x0101

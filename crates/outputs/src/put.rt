@@ -4,51 +4,51 @@ ghost use Rattle.std.specs.Prelude.{◌+◌, ◌*◌, ◌≤◌, ◌++◌, ◌�
 ghost use Rattle.std.specs.Int.Count.{ones};
 ghost use Rattle.outputs.specs.Fields.{digits, hash_bytes, bytes_of};
 ghost use Rattle.outputs.specs.Put.{Put};
-ghost use Rattle.outputs.specs.Records.{members_max, qc_fields, places_of, entries, tc_fields};
+ghost use Rattle.outputs.specs.Records.{members_max, qc_fields, places_of, entries, tc_fields, code_of};
 
+use crate::records::Kind;
 use certificates::messages::QC;
 use certificates::numbers::{Hash, Round, Signers};
 
-// Each number is two of the width below, joined by one law (`joined` of proofs/Writes.antt).
+// Some bytes.
+fn put<const N: usize>(out: &mut [u8], at: usize, bytes: [u8; N]) -> usize
+    requires { at + N ≤ length out.old }
+    ensures { Put out.old at N bytes.entry out.new result }
+{
+    let to = at + N;
+    out[at..to].copy_from_slice(&bytes);
+    to
+}
+
+// A number of each width.
 pub(crate) fn put8(out: &mut [u8], at: usize, x: u8) -> usize
     requires { at + 1 ≤ length out.old }
     ensures { Put out.old at 1 (digits 1 x) out.new result }
 {
-    out[at] = x;
-    at + 1
+    put(out, at, [x])
 }
 
 pub(crate) fn put16(out: &mut [u8], at: usize, x: u16) -> usize
     requires { at + 2 ≤ length out.old }
     ensures { Put out.old at 2 (digits 2 x) out.new result }
 {
-    let mid = put8(out, at, (x % 256) as u8);
-    put8(out, mid, (x / 256) as u8)
-}
-
-pub(crate) fn put32(out: &mut [u8], at: usize, x: u32) -> usize
-    requires { at + 4 ≤ length out.old }
-    ensures { Put out.old at 4 (digits 4 x) out.new result }
-{
-    let mid = put16(out, at, (x % 65536) as u16);
-    put16(out, mid, (x / 65536) as u16)
+    put(out, at, u16::to_le_bytes(x))
 }
 
 pub(crate) fn put64(out: &mut [u8], at: usize, x: u64) -> usize
     requires { at + 8 ≤ length out.old }
     ensures { Put out.old at 8 (digits 8 x) out.new result }
 {
-    let mid = put32(out, at, (x % 4294967296) as u32);
-    put32(out, mid, (x / 4294967296) as u32)
+    put(out, at, u64::to_le_bytes(x))
 }
 
 // A record's length and kind.
-pub(crate) fn put_head(out: &mut [u8], at: usize, len: u16, kind: u16) -> usize
+pub(crate) fn put_head(out: &mut [u8], at: usize, len: u16, kind: Kind) -> usize
     requires { at + 4 ≤ length out.old }
-    ensures { Put out.old at 4 (digits 2 len ++ digits 2 kind) out.new result }
+    ensures { Put out.old at 4 (digits 2 len ++ digits 2 (code_of kind)) out.new result }
 {
     let mid = put16(out, at, len);
-    put16(out, mid, kind)
+    put16(out, mid, kind as u16)
 }
 
 pub(crate) fn put_hash(out: &mut [u8], at: usize, h: Hash) -> usize

@@ -9,25 +9,19 @@ use certificates::messages::QC;
 use certificates::numbers::{Hash, Place, Round, Signers};
 
 // The kind of each record.
-pub const VOTE: u16 = 0x0101;
-
-pub const TIMEOUT: u16 = 0x0102;
-
-pub const TC: u16 = 0x0103;
-
-pub const MAKE: u16 = 0x0104;
-
-pub const COMMIT: u16 = 0x0105;
-
-pub const SYNC: u16 = 0x0106;
-
-pub const CLEAN_PROPOSER: u16 = 0x0107;
-
-pub const CLEAN_MEMPOOL: u16 = 0x0108;
-
-pub const TIMER_RESET: u16 = 0x0109;
-
-pub const ANSWER: u16 = 0x010A;
+#[derive(Clone, Copy)]
+pub(crate) enum Kind {
+    Vote = 0x0101,
+    Timeout = 0x0102,
+    Tc = 0x0103,
+    Make = 0x0104,
+    Commit = 0x0105,
+    Sync = 0x0106,
+    CleanProposer = 0x0107,
+    CleanMempool = 0x0108,
+    TimerReset = 0x0109,
+    Answer = 0x010A,
+}
 
 // The bytes of each record, its length field included; where their number varies, the most.
 pub const VOTE_SIZE: usize = 46;
@@ -56,7 +50,7 @@ pub fn put_vote(out: &mut [u8], at: usize, to: Place, hash: Hash, round: Round) 
     requires { at + vote_size ≤ length out.old }
     ensures { Put out.old at vote_size (enc (vote to.0 hash round.0)) out.new result }
 {
-    let a = put_head(out, at, 44, VOTE);
+    let a = put_head(out, at, 44, Kind::Vote);
     let b = put16(out, a, to.0);
     let c = put_hash(out, b, hash);
     put64(out, c, round.0)
@@ -66,7 +60,7 @@ pub fn put_timeout(out: &mut [u8], at: usize, round: Round, high: QC) -> usize
     requires { at + timeout_size ≤ length out.old }
     ensures { Put out.old at timeout_size (enc (timeout round.0 high)) out.new result }
 {
-    let a = put_head(out, at, 58, TIMEOUT);
+    let a = put_head(out, at, 58, Kind::Timeout);
     let b = put64(out, a, round.0);
     put_qc(out, b, high)
 }
@@ -77,7 +71,7 @@ pub fn put_tc(out: &mut [u8], at: usize, round: Round, names: Signers, highs: &[
     ensures { PutTo tc_most out.old at (enc (tc round.0 names.0 highs.now)) out.new result }
 {
     let n = names_in(names);
-    let a = put_head(out, at, 12 + 10 * n, TC);
+    let a = put_head(out, at, 12 + 10 * n, Kind::Tc);
     put_tc_body(out, a, round, names, highs)
 }
 
@@ -86,7 +80,7 @@ pub fn put_make(out: &mut [u8], at: usize, round: Round, high: QC) -> usize
     requires { at + make_size ≤ length out.old }
     ensures { Put out.old at make_size (enc (make round.0 high)) out.new result }
 {
-    let a = put_head(out, at, 59, MAKE);
+    let a = put_head(out, at, 59, Kind::Make);
     let b = put64(out, a, round.0);
     let c = put_qc(out, b, high);
     put8(out, c, 0)
@@ -106,7 +100,7 @@ pub fn put_make_with(
     ensures { PutTo make_with_most out.old at (enc (make_with round.0 high of.0 names.0 highs.now)) out.new result }
 {
     let n = names_in(names);
-    let a = put_head(out, at, 69 + 10 * n, MAKE);
+    let a = put_head(out, at, 69 + 10 * n, Kind::Make);
     let b = put64(out, a, round.0);
     let c = put_qc(out, b, high);
     let d = put8(out, c, 1);
@@ -117,7 +111,7 @@ pub fn put_commit(out: &mut [u8], at: usize, digest: Hash, round: Round) -> usiz
     requires { at + commit_size ≤ length out.old }
     ensures { Put out.old at commit_size (enc (commit digest round.0)) out.new result }
 {
-    let a = put_head(out, at, 42, COMMIT);
+    let a = put_head(out, at, 42, Kind::Commit);
     let b = put_hash(out, a, digest);
     put64(out, b, round.0)
 }
@@ -126,7 +120,7 @@ pub fn put_sync(out: &mut [u8], at: usize, parent: Hash, block: Hash, author: Pl
     requires { at + sync_size ≤ length out.old }
     ensures { Put out.old at sync_size (enc (sync parent block author.0)) out.new result }
 {
-    let a = put_head(out, at, 68, SYNC);
+    let a = put_head(out, at, 68, Kind::Sync);
     let b = put_hash(out, a, parent);
     let c = put_hash(out, b, block);
     put16(out, c, author.0)
@@ -137,7 +131,7 @@ pub fn put_clean_proposer(out: &mut [u8], at: usize, b0: Hash, b1: Hash, block: 
     requires { at + clean_proposer_size ≤ length out.old }
     ensures { Put out.old at clean_proposer_size (enc (clean_proposer b0 b1 block)) out.new result }
 {
-    let a = put_head(out, at, 98, CLEAN_PROPOSER);
+    let a = put_head(out, at, 98, Kind::CleanProposer);
     let b = put_hash(out, a, b0);
     let c = put_hash(out, b, b1);
     put_hash(out, c, block)
@@ -147,7 +141,7 @@ pub fn put_clean_mempool(out: &mut [u8], at: usize, round: Round) -> usize
     requires { at + clean_mempool_size ≤ length out.old }
     ensures { Put out.old at clean_mempool_size (enc (clean_mempool round.0)) out.new result }
 {
-    let a = put_head(out, at, 10, CLEAN_MEMPOOL);
+    let a = put_head(out, at, 10, Kind::CleanMempool);
     put64(out, a, round.0)
 }
 
@@ -155,13 +149,13 @@ pub fn put_timer_reset(out: &mut [u8], at: usize) -> usize
     requires { at + timer_reset_size ≤ length out.old }
     ensures { Put out.old at timer_reset_size (enc timer_reset) out.new result }
 {
-    put_head(out, at, 2, 0x0109)
+    put_head(out, at, 2, Kind::TimerReset)
 }
 
 pub fn put_answer(out: &mut [u8], at: usize, number: u16) -> usize
     requires { at + answer_size ≤ length out.old }
     ensures { Put out.old at answer_size (enc (answer number)) out.new result }
 {
-    let a = put_head(out, at, 4, ANSWER);
+    let a = put_head(out, at, 4, Kind::Answer);
     put16(out, a, number)
 }

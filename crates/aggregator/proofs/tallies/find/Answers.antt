@@ -1,17 +1,14 @@
--- `aggregator::tallies::find` meets its contract: the row is the lowest that passes, or none does (`missed-hit`, `missed-end`).
+-- `aggregator::tallies::find` meets its contract: the iterator finds the lowest row that passes (`chunks-position`).
 -- Assumes nothing.
-use Rattle.std.proofs.Common.{arith, sym, ◌∙◌}
+use Rattle.std.proofs.Common.{◌∙◌, rules, tests, arith}
 use Rattle.aggregator.specs.Tallies.{find_row}
-use Rattle.aggregator.proofs.Rows.{part-row, missed-hit, missed-end}
+use Rattle.aggregator.proofs.Chunks.{rows_cut, chunks-position}
 use Rattle.aggregator.proofs.tallies.find.Goals as goal
-
-pub returns-then-is_of : goal.returns-then-is_of
-unfolding find_row
-returns-then-is_of g c =
-    let k = g.K.Key in
-    let is = rw (c.WIDTH.ensures, c.WIDTH-in-loop-i.ensures, part-row) at c.is_of.ensures in
-    missed-hit _ _ _ c.loop-i.invariant k.TALLIES (omega (arith, c.TALLIES-i-end.ensures)) (sym is ∙ c.if-is_of.true)
 
 pub returns : goal.returns
 unfolding find_row
-returns g c = missed-end _ _ _ c.loop-i.invariant _ (omega (arith, c.TALLIES-i-end.ensures))
+returns g c =
+    let k = g.K.Key in
+    let wide = g.met.K.Key.wide in
+    let cut = c.chunks_exact.ensures in
+    chunks-position k.WIDTH k.TALLIES c.args.table.now c.requires (omega arith) (k.test c.args.key) _ _ (λ x b q h. search (rules, tests)) _ (rows_cut (omega arith) _ cut.rest (cut.size ∙ c.WIDTH.ensures) cut.runs) _ c.position.ensures.runs

@@ -1,8 +1,8 @@
--- `outputs::put::put64` meets its contract: two writes of four bytes are one of eight (`joined`).
+-- `outputs::put::put64` meets its contract: `to_le_bytes` has the bytes, the lowest first (`le_digits`).
 -- Assumes nothing.
-use Rattle.outputs.proofs.Writes.{joined}
-use borrow.Author.Rules.{rules}
+use Rattle.std.proofs.Common.{◌∙◌}
+use Rattle.outputs.proofs.Writes.{le_digits}
 use Rattle.outputs.proofs.put.put64.Goals as goal
 
 pub returns : goal.returns
-returns c = search (rules, joined 4 4)
+returns c = rw (c.to_le_bytes.ensures ∙ le_digits 8 c.args.x) at c.put.ensures
