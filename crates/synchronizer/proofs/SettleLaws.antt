@@ -1,9 +1,10 @@
 -- Laws of `specs/Settle.antt` and of the parts of it in `specs/Parts.antt`.
 --     commits-fit              at most as many COMMITs as slots: after the store b1's slot or b0's is still there, and neither is below b0
---     clean-.., head-.., asks-..    the ways out of the functions on values
+--     clean-.., asks-..        the ways out of the functions on values
+--     count-.., commit-..      what follows the store
 --     admit-..                 a block's ancestors and its store
---     commit-..              what follows the store
 --     process-..               a block
+--     processed-is             what a block comes to, by the number of its ancestors
 --     processed-waits          a block that waits for its parent has written nothing
 --     ask-.., wait-none        SYNC behind what a block wrote; where it does not wait, nothing
 --     settle-..                an event

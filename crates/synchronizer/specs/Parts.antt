@@ -1,6 +1,8 @@
 -- What the functions on values answer: the steps that code takes to the definitions of `Table`, `Walk` and `Settle`. No law of the meaning cites this file.
 --     next_walked child last p       what a walk goes on to from a block of the round `child` whose parent is p
---     counted r, count_of c          the number of blocks that a commit delivers: as code says it, and of the commit
+--     Count                          what a walk answers, and how many blocks it delivers
+--     counted r, count_of c          that: as code says it, and of a commit
+--     placed p a, after_store r t' t the ancestors a, where the store then has a place; and the table
 --     Admits t b r t'                a block's ancestors and its store
 --     CommitsFit t w a k             what a stored block brings has room in k bytes
 --     RoomToAsk s k                  k bytes have room for SYNC where the settlement s waits for a parent

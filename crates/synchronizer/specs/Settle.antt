@@ -10,6 +10,7 @@
 --     asking w s             a block's settlement s, and what is written where it waits
 --     brought w              what the table is asked for where a block comes
 --     is_store k             whether a block comes
+--     settled_by t w k       an event whose task is k
 --     settled_of t w         an event
 --     clean_most, settle_most n  the most bytes that are written before the COMMITs, and over a table of n slots
 --     RoomFor w n k          a buffer of k bytes has room for what is written over a table of n slots
