@@ -8,108 +8,86 @@
 ghost use Rattle.std.specs.Prelude.{◌+◌, ◌≤◌, length};
 
 use buffers::shift;
-use buffers::streams::{large_buffer, read_some};
+use buffers::streams::{LARGE, large_buffer, read_some};
 use certificates::error::{Refusal, number};
 use outputs::records::{ANSWER_SIZE, put_answer};
 use std::io::{Read, Write};
 
-// The bytes from start up to have are trace that was read and not taken.
-#[derive(Clone, Copy)]
-struct State {
+// A run: what it reads and writes, and its buffers. The bytes of buf from start up to have are trace
+// that was read and not taken.
+#[derive(Drop)]
+struct Run<R, W> {
+    input: R,
+    output: W,
+    buf: [u8; LARGE],
+    out: [u8; LARGE],
     start: usize,
     have: usize,
+    ghost ordered: { start ≤ have },
+    ghost within: { have ≤ 65536 },
 }
 
-// One read into buf from `have` on, and how many bytes it brought: 0 at the end of the input, or
-// where a read fails.
-fn fill<R: Read>(input: &mut R, buf: &mut [u8], have: usize) -> usize
-    requires { have ≤ length buf.old }
-    ensures { have + result ≤ length buf.old }
-{
-    read_some(input, &mut buf[have..])
-}
-
-// The answer to a record that is cut or too long, after which the run ends.
-fn refuse<W: Write>(output: &mut W, out: &mut [u8]) {
-    if out.len() < ANSWER_SIZE {
-        return;
+impl<R: Read, W: Write> Run<R, W> {
+    // The answer to a record that is cut or too long, after which the run ends.
+    fn refuse(&mut self) {
+        let n = put_answer(&mut self.out, 0, number(Err(Refusal::BadRecord)));
+        let _ = self.output.write_all(&self.out[..n]);
     }
-    let n = put_answer(out, 0, number(Err(Refusal::BadRecord)));
-    let _ = output.write_all(&out[..n]);
-}
 
-// No whole record is left: more is read, after what is left of the trace was moved to the front.
-// Nothing where the run ends.
-fn refill<R: Read, W: Write>(
-    input: &mut R,
-    output: &mut W,
-    buf: &mut [u8],
-    out: &mut [u8],
-    s: State,
-) -> Option<State>
-    requires { (s.start ≤ s.have) × (s.have ≤ length buf.old) }
-{
-    let kept = shift(buf, s.start, s.have);
-    if forms::is_too_long(&buf[..kept]) {
-        refuse(output, out);
-        return None;
-    }
-    let n = fill(input, buf, kept);
-    if n == 0 {
-        if kept != 0 {
-            refuse(output, out);
+    // No whole record is left: more is read, after what is left of the trace was moved to the front.
+    // Nothing where the run ends.
+    fn refill(&mut self) -> Option<()> {
+        let kept = shift(&mut self.buf, self.start, self.have);
+        self.start = 0;
+        self.have = kept;
+        if forms::is_too_long(&self.buf[..kept]) {
+            self.refuse();
+            return None;
         }
-        return None;
+        let n = read_some(&mut self.input, &mut self.buf[kept..]);
+        if n == 0 {
+            if kept != 0 {
+                self.refuse();
+            }
+            return None;
+        }
+        self.have = kept + n;
+        Some(())
     }
-    Some(State {
-        start: 0,
-        have: kept + n,
-    })
-}
 
-// Answers the whole records in the buffer, or reads more where there is none. Nothing where the run
-// ends. The bounds that are tested here hold in every run; the tests take the place of an invariant
-// on the state.
-fn step<R: Read, W: Write>(
-    input: &mut R,
-    output: &mut W,
-    buf: &mut [u8],
-    out: &mut [u8],
-    s: State,
-) -> Option<State> {
-    let State { start, have } = s;
-    if buf.len() < have || have < start {
-        return None;
+    // Answers the whole records in the buffer, or reads more where there is none. Nothing where the
+    // run ends. The bounds that are tested here hold in every run.
+    fn step(&mut self) -> Option<()> {
+        let (start, have) = (self.start, self.have);
+        let Run { buf, out, .. } = self;
+        let ran = forms::run(&buf[start..have], out);
+        if ran.used == 0 {
+            return self.refill();
+        }
+        if LARGE < ran.written || have - start < ran.used {
+            return None;
+        }
+        self.output.write_all(&self.out[..ran.written]).ok()?;
+        self.start = start + ran.used;
+        Some(())
     }
-    let ran = forms::run(&buf[start..have], out);
-    if ran.used == 0 {
-        return refill(input, output, buf, out, s);
-    }
-    if out.len() < ran.written || have - start < ran.used {
-        return None;
-    }
-    output.write_all(&out[..ran.written]).ok()?;
-    Some(State {
-        start: start + ran.used,
-        have,
-    })
 }
 
 // A proved loop has to end, and nothing says that the input does, so the turns are counted. Each
 // takes a record of two bytes or more, reads a byte or more, or ends the run: a trace of n bytes
 // takes at most 1.5 n + 1 turns, and these are enough for 10^19 bytes.
-fn run_all<R: Read, W: Write>(input: &mut R, output: &mut W, buf: &mut [u8], out: &mut [u8]) {
-    let mut s = State { start: 0, have: 0 };
+fn main(rt: HostRuntime) {
+    let mut run = Run {
+        input: rt.stdin(),
+        output: rt.stdout(),
+        buf: large_buffer(),
+        out: large_buffer(),
+        start: 0,
+        have: 0,
+    };
     for _ in 0..u64::MAX {
-        match step(input, output, buf, out, s) {
-            Some(next) => s = next,
-            None => return,
+        if run.step().is_none() {
+            return;
         }
     }
-}
-
-fn main(rt: HostRuntime) {
-    let mut buf = large_buffer();
-    let mut out = large_buffer();
-    run_all(&mut rt.stdin(), &mut rt.stdout(), &mut buf, &mut out);
 }

@@ -4,8 +4,14 @@
 
 use serving::serve::serve_new;
 use serving::state::Mode;
+use serving::streams::Streams;
 use std::io::empty;
 
 fn main(rt: HostRuntime) {
-    serve_new(&mut rt.stdin(), &mut empty(), &mut rt.stdout(), Mode::Write);
+    let mut streams = Streams {
+        input: rt.stdin(),
+        expected: empty(),
+        output: rt.stdout(),
+    };
+    serve_new(&mut streams, Mode::Write);
 }

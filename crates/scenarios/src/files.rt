@@ -3,8 +3,9 @@ ghost use Rattle.std.specs.Prelude.{◌≤◌, length, IfSome};
 
 use buffers::streams::{large_buffer, read_full};
 use buffers::{copy, sum_of};
+use serving::streams::Streams;
 use std::fs::File;
-use std::io::Read;
+use std::io::{Read, Sink, sink};
 use std::rt::Files;
 use std::str::from_utf8;
 
@@ -36,25 +37,30 @@ pub(crate) fn open<R: Files>(rt: &R, name: &[u8], ending: &str) -> Option<R::Fil
     File::open(rt, text).ok()
 }
 
-// Two files of a name, which is said, and so is which of them is missing.
+// Two files of a name, to read and to compare with. The name is said, and so is which of them is
+// missing.
 pub(crate) fn open_both<R: Files + Print>(
     rt: &R,
     name: &[u8],
     one: &str,
     other: &str,
-) -> Option<(R::File, R::File)> {
+) -> Option<Streams<R::File, R::File, Sink>> {
     let first = open(rt, name, one);
     let second = open(rt, name, other);
     say(rt, name);
-    let Some(first) = first else {
+    let Some(input) = first else {
         let _ = println!(rt; "{one}: missing");
         return None;
     };
-    let Some(second) = second else {
+    let Some(expected) = second else {
         let _ = println!(rt; "{other}: missing");
         return None;
     };
-    Some((first, second))
+    Some(Streams {
+        input,
+        expected,
+        output: sink(),
+    })
 }
 
 // Reads are counted, since nothing says that a file ends: they are enough for 2^47 bytes.

@@ -22,7 +22,6 @@ use list::Tally;
 use packs::play_pack;
 use serving::serve::serve_new;
 use serving::state::{Mode, Served, Why};
-use std::io::sink;
 use std::rt::Files;
 
 // What became of a trace.
@@ -36,10 +35,10 @@ fn tell(rt: &impl Print, r: Served) {
 
 // Whether what the replica writes for a trace is what is expected.
 fn play_trace<R: Files + Print>(rt: &R, name: &[u8]) -> bool {
-    let Some((mut input, mut expected)) = open_both(rt, name, ".trace", ".expect") else {
+    let Some(mut streams) = open_both(rt, name, ".trace", ".expect") else {
         return false;
     };
-    let r = serve_new(&mut input, &mut expected, &mut sink(), Mode::File);
+    let r = serve_new(&mut streams, Mode::File);
     tell(rt, r);
     say_sum(rt, name, &[".txt", ".trace", ".expect"]);
     r.why == Why::Ended

@@ -3,7 +3,8 @@ use crate::files::{open_both, say_sum};
 use buffers::streams::read_full;
 use serving::serve::serve_new;
 use serving::state::{Mode, Why};
-use std::io::{Read, sink};
+use serving::streams::Streams;
+use std::io::{Read, Sink};
 use std::rt::Files;
 
 // What the front of a pack has: the length of a part, nothing, or bytes that are no length.
@@ -36,13 +37,13 @@ enum End {
 }
 
 // The next trace of a pack: nothing where it is equal, and the pack goes on.
-fn play_next<F: Read>(traces: &mut F, answers: &mut F) -> Option<End> {
-    let (left, due) = match (front_of(traces), front_of(answers)) {
+fn play_next<F: Read>(pack: &mut Streams<F, F, Sink>) -> Option<End> {
+    let (left, due) = match (front_of(&mut pack.input), front_of(&mut pack.expected)) {
         (Front::Part { len: left }, Front::Part { len: due }) => (left, due),
         (Front::End, Front::End) => return Some(End::AllEqual),
         _ => return Some(End::NotAlike),
     };
-    let r = serve_new(traces, answers, &mut sink(), Mode::Part { left, due });
+    let r = serve_new(pack, Mode::Part { left, due });
     match r.why {
         Why::Ended => None,
         Why::Differs => Some(End::Differs { at: r.place }),
@@ -51,9 +52,9 @@ fn play_next<F: Read>(traces: &mut F, answers: &mut F) -> Option<End> {
 }
 
 // The traces found equal, and how the pack ends. They are counted, since nothing says that a file ends.
-fn play_parts<F: Read>(traces: &mut F, answers: &mut F) -> (u32, End) {
+fn play_parts<F: Read>(pack: &mut Streams<F, F, Sink>) -> (u32, End) {
     for equal in 0..u32::MAX {
-        if let Some(end) = play_next(traces, answers) {
+        if let Some(end) = play_next(pack) {
             return (equal, end);
         }
     }
@@ -77,10 +78,10 @@ fn tell(rt: &impl Print, equal: u32, end: End) {
 
 // Whether every trace of a pack is answered with what is expected.
 pub(crate) fn play_pack<R: Files + Print>(rt: &R, name: &[u8]) -> bool {
-    let Some((mut traces, mut answers)) = open_both(rt, name, ".traces", ".answers") else {
+    let Some(mut pack) = open_both(rt, name, ".traces", ".answers") else {
         return false;
     };
-    let (equal, end) = play_parts(&mut traces, &mut answers);
+    let (equal, end) = play_parts(&mut pack);
     tell(rt, equal, end);
     say_sum(rt, name, &[".traces", ".answers"]);
     matches!(end, End::AllEqual)

@@ -87,6 +87,9 @@ pub(crate) fn moved<R: Read, E: Read, W: Write>(
 // Turn after turn, to the end of the run. Nothing says that the input ends, so the turns are counted
 // down. Each takes a record of two bytes or more, reads a byte or more, or ends the run: a trace of
 // n bytes takes at most 1.5 n + 1 turns, and 2^64 - 1 are enough for 10^19 bytes.
+//
+// The lent buffers are parameters: a struct of them was tried, and the proof did not close, since two
+// references in one struct cannot be lent on at once.
 pub fn serve<R: Read, E: Read, W: Write>(
     streams: &mut Streams<R, E, W>,
     stakes: &mut [u32],

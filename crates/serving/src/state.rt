@@ -1,6 +1,6 @@
 // A run by value: what the replica keeps by value, and how far it is.
 ghost use Rattle.std.specs.Prelude.{◌≡◌, ◌+◌, ◌≤◌, ◌<◌, ◌^◌, unwrap_or, ltb};
-ghost use Rattle.serving.specs.State.{idle as idle_run, fresh_of, rank, ended_by, passed_by, filled_by, readable_of, due_of, read_by, met_in, end_of, gained_by, brought_by, met_by, held_by, further_by, judged_by, told_of};
+ghost use Rattle.serving.specs.State.{idle as idle_run, fresh_of, rank, later, ended_by, passed_by, filled_by, readable_of, due_of, read_by, met_in, end_of, gained_by, brought_by, met_by, held_by, further_by, judged_by, told_of};
 
 use certificates::messages::QC;
 use certificates::numbers::{Hash, Place, Round, Signers};
@@ -54,6 +54,13 @@ impl Why {
         ensures { result ≡ ltb (rank Why.Ended) (rank self) }
     {
         Why::Ended < self
+    }
+
+    // The one that stands over the other.
+    fn later(self, other: Why) -> Why
+        ensures { result ≡ later self other }
+    {
+        self.max(other)
     }
 }
 
@@ -175,7 +182,7 @@ impl Serving {
     {
         Serving {
             turns: 0,
-            why: self.why.max(why),
+            why: self.why.later(why),
             ..self
         }
     }
