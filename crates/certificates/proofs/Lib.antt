@@ -11,6 +11,7 @@ pub mod Clean
 pub mod Check
 pub mod MessageLaws
 pub mod ErrorLaws
+pub mod Codes
 pub mod Accepted
 pub mod Overlap
 pub mod Theorems

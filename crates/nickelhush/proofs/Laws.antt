@@ -8,6 +8,7 @@ use native.Mathlib.Omega.{arith}
 use borrow.Author.Tests.{eq-eqb, ne_eqb, eqb-true, ltb-false, le-ltb, lt-ltb}
 use lib.Dec.{eqb, ltb, leb}
 use lib.ListN.{length, get_or}
+use Rattle.certificates.specs.Error.{number}
 use Rattle.std.specs.Prelude.{Option, None, Some, is_some}
 use Rattle.certificates.specs.Error.{bad_record}
 use Rattle.certificates.specs.declared.numbers.Stake.{Stake}
@@ -135,7 +136,7 @@ module _ (ss cs ks vs ts : List ℕ) (ys : List Slot) (zs xs : List ℕ) where
     step_small l = written_small s (world_of (lent ss cs ks vs ts ys zs)) xs zs (ap (λ (x : Left). x.written) as_lent) l
 
     pub host-left : {x : ℕ} {ss' cs' : List ℕ} → ready (length ss) (length cs) (form_of xs) ≡ true
-        → (x ≡ packed s.answer s.written) × (ss' ≡ seat_numbers s.seat) × (cs' ≡ core_numbers s.core)
+        → (x ≡ packed (number s.answer) s.written) × (ss' ≡ seat_numbers s.seat) × (cs' ≡ core_numbers s.core)
         → handed x (lent ss' cs' ks' vs' ts' ys' zs') ≡ hosted (lent ss cs ks vs ts ys zs) xs
     unfolding hosted handed_by
     host-left f k = rw (ready-fits (length ss) (length cs) (form_of xs) f, k.0, k.1, k.2) (ap handed_by as_lent)

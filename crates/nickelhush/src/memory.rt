@@ -1,10 +1,11 @@
 // The part of the replica's record that `step` takes by value, as it lies in lent numbers; and an
 // event's result as one number.
 ghost use Rattle.std.specs.Prelude.{◌≡◌, ◌≤◌, length, replicate, get_or};
+ghost use Rattle.certificates.specs.Error.{number};
 ghost use Rattle.trace.specs.Form.{form_of};
 ghost use Rattle.nickelhush.specs.Memory.{seat_length, core_length, fit, ready, seat_of, core_of, seat_numbers, core_numbers, packed, written_most, unfit_answer};
 
-use certificates::error::{BAD_RECORD, NO_ROOM, NOT_STARTED};
+use certificates::error::{Answer, Refusal, number};
 use certificates::messages::QC;
 use certificates::numbers::{Hash, Place, Round, Signers};
 use moves::state::Core;
@@ -39,10 +40,9 @@ pub(crate) fn seat_in(seat: &[u16]) -> Seat
     requires { length seat.now ≡ seat_length }
     ensures { result ≡ seat_of seat.now }
 {
-    let own = Place(seat[1]);
     Seat {
         count: seat[0],
-        own,
+        own: Place(seat[1]),
     }
 }
 
@@ -95,35 +95,33 @@ fn core_out(core: &mut [u64], c: Core)
 }
 
 // An event's result as one number: the answer in the low 16 bits, the bytes written in the high 16.
-fn pack(answer: u16, written: usize) -> u32
+fn pack(answer: Answer, written: usize) -> u32
     requires { written ≤ written_most }
-    ensures { result ≡ packed answer written }
+    ensures { result ≡ packed (number answer) written }
 {
-    (answer as u32) + 65536 * (written as u32)
+    (number(answer) as u32) + 65536 * (written as u32)
 }
 
 // Writes back what an event left, and gives its result.
 pub(crate) fn keep(seat: &mut [u16], core: &mut [u64], s: Stepped) -> u32
     requires { (length seat.old ≡ seat_length) × (length core.old ≡ core_length) × (s.written ≤ written_most) }
-    ensures { (result ≡ packed s.answer s.written) × (seat.new ≡ seat_numbers s.seat) × (core.new ≡ core_numbers s.core) }
+    ensures { (result ≡ packed (number s.answer) s.written) × (seat.new ≡ seat_numbers s.seat) × (core.new ≡ core_numbers s.core) }
 {
-    let place = s.seat;
-    let state = s.core;
-    seat_out(seat, place);
-    core_out(core, state);
+    seat_out(seat, s.seat);
+    core_out(core, s.core);
     pack(s.answer, s.written)
 }
 
 // The answer where the seat or the core has another length: the memory counts as not started, and no
 // replica can start in it.
-fn unfit_answer(kind: Option<Kind>) -> u16
-    ensures { result ≡ unfit_answer kind }
+fn unfit_answer(kind: Option<Kind>) -> Answer
+    ensures { number result ≡ unfit_answer kind }
 {
-    match kind {
-        None => BAD_RECORD,
-        Some(Kind::Start) => NO_ROOM,
-        Some(_) => NOT_STARTED,
-    }
+    Err(match kind {
+        None => Refusal::BadRecord,
+        Some(Kind::Start) => Refusal::NoRoom,
+        Some(_) => Refusal::NotStarted,
+    })
 }
 
 pub(crate) fn refuse(input: &[u8]) -> u32

@@ -3,6 +3,7 @@
 --     handed_left h t out    what code hands back, with the table and the output that it leaves
 --     no_replica             the record of zeros
 use Rattle.std.specs.Prelude.{ℕ, List, replicate}
+use Rattle.certificates.specs.Error.{number}
 use Rattle.certificates.specs.Numbers.{zero_hash}
 use Rattle.certificates.specs.Config.{members_max}
 use Rattle.aggregator.specs.Tallies.{votes_length, timeouts_length}
@@ -15,7 +16,7 @@ abbrev pub world_of : Replica → List Slot → World
 world_of r t = world r.seat r.stakes r.core r.votes r.timeouts t
 
 abbrev pub handed_left : Handed → List Slot → List ℕ → Left
-handed_left h t out = record { answer = h.answer; world = world_of h.replica t; written = h.written; out = out }
+handed_left h t out = record { answer = number h.answer; world = world_of h.replica t; written = h.written; out = out }
 
 abbrev pub no_replica : Replica
 no_replica =

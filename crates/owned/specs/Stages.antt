@@ -3,6 +3,7 @@
 --     Closable    what the last part asks for, where there is a block
 --     Closes      what the last part leaves
 use Rattle.std.specs.Prelude.{ℕ, List, ◌≡◌, length}
+use Rattle.certificates.specs.Error.{number}
 use Rattle.handlers.specs.Votes.{voting_most}
 use Rattle.trace.specs.Fields.{block_of}
 use Rattle.moves.specs.State.{whole}
@@ -30,7 +31,7 @@ stepped_in h = record { answer = h.answer; seat = h.replica.seat; core = h.repli
 -- the outcome that the last part is asked for
 abbrev pub closing : Opened → Settled → List ℕ → Outcome
 closing o s input =
-    finished_of (members_of o.begun.seat o.stakes) o.begun.seat.own.0 (whole o.begun.core o.votes o.timeouts) o.begun.does o.begun.answer s.answer s.last.0 (block_of input)
+    finished_of (members_of o.begun.seat o.stakes) o.begun.seat.own.0 (whole o.begun.core o.votes o.timeouts) o.begun.does (number o.begun.answer) (number s.answer) s.last.0 (block_of input)
 
 pub record Closes (o : Opened) (s : Settled) (input before : List ℕ) (h : Handed) (after : List ℕ) : Type 0 where
   pub held : h.replica.stakes ≡ o.stakes

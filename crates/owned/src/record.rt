@@ -5,6 +5,7 @@ ghost use Rattle.owned.specs.Record.{no_replica};
 
 use aggregator::tallies::{TIMEOUT_TALLIES, TIMEOUT_WIDTH, VOTE_TALLIES, VOTE_WIDTH};
 use certificates::config::MEMBERS_MAX;
+use certificates::error::Answer;
 use certificates::messages::QC;
 use certificates::numbers::{Hash, Place, Round, Signers};
 use moves::state::Core;
@@ -22,7 +23,7 @@ pub struct Replica {
 // What an event leaves: the answer, how many bytes were written, and the record.
 #[derive(Clone, Copy)]
 pub struct Handed {
-    pub answer: u16,
+    pub answer: Answer,
     pub written: usize,
     pub replica: Replica,
 }

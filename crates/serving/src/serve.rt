@@ -13,7 +13,7 @@ use crate::streams::Streams;
 use aggregator::tallies::{TIMEOUT_TALLIES, TIMEOUT_WIDTH, VOTE_TALLIES, VOTE_WIDTH};
 use buffers::streams::large_buffer;
 use certificates::config::MEMBERS_MAX;
-use certificates::error::BAD_RECORD;
+use certificates::error::{Refusal, number};
 use certificates::numbers::{Hash, Round};
 use outputs::records::{ANSWER_SIZE, put_answer};
 use std::io::{Read, Write};
@@ -40,7 +40,7 @@ fn cut<R, E: Read, W: Write>(
     if out.len() < ANSWER_SIZE {
         return s.ended(Why::NoRoom);
     }
-    let n = put_answer(out, 0, BAD_RECORD);
+    let n = put_answer(out, 0, number(Err(Refusal::BadRecord)));
     deliver(streams, out, pack, n, s)
 }
 

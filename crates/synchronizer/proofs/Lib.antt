@@ -2,7 +2,6 @@ pub mod Cases
 pub mod ChainLaws
 pub mod KeptLaws
 pub mod Lookups
-pub mod Numbers
 pub mod SettleLaws
 pub mod TableLaws
 pub mod Tests

@@ -41,7 +41,7 @@ use Rattle.synchronizer.specs.Table.{slot_at, blank, place_of, stored, store_ans
 use Rattle.synchronizer.specs.Walk.{Commit, commit_of, chain_of}
 use Rattle.synchronizer.specs.Settle.{Settlement, answered, is_two_chain, clean_of, commit_if, commit_rec, linked_of, wait_of, asking, processed_by, processed_of, brought, is_store, settled_by, settled_of, clean_most, settle_most, Settles}
 use Rattle.synchronizer.specs.Parts.{Count, counted, count_of, placed, Admits, CommitsFit, RoomToAsk, Asks}
-use Rattle.synchronizer.proofs.Numbers.{code-same, number-same}
+use Rattle.certificates.proofs.Codes.{code-same, number-same}
 use Rattle.synchronizer.proofs.Tests.{by_cases}
 use Rattle.synchronizer.proofs.TableLaws.{ancestors-are, ancestors-found, ancestors-both, stored-length, cleared-length}
 use Rattle.synchronizer.proofs.WalkLaws.{below, below-some, InTable, parent_in, commit-size, commit-chain, commit-never-waits}

@@ -12,6 +12,7 @@ use borrow.Author.Tests.{le-leb, lt-leb, leb-true}
 use denote.Enum.Bare.{sameb}
 use lib.Dec.{leb}
 use lib.ListN.{length}
+use Rattle.certificates.specs.Error.{number}
 use Rattle.outputs.specs.Records.{answer, answer_size, enc, enc_all}
 use Rattle.outputs.specs.Put.{Put}
 use Rattle.outputs.proofs.Wrote.{all_none, all_one, wrote_none, wrote_one}
@@ -49,7 +50,7 @@ module _ (run : Run) (ahead : Ahead) (x : Stepped) (before : List ℕ) where
   pub close_more : ahead.met ≡ More → Closes run ahead x before (record { run = run'; written = x.written; met = ahead.met }) before
   close_more e = silent (rw e)
 
-  closing-other : (met : Met) (room : ℕ) → (met ≡ More → ⊥) → closing met x room ≡ cond (leb (x.written + answer_size) room) (answer x.answer ∷ []) []
+  closing-other : (met : Met) (room : ℕ) → (met ≡ More → ⊥) → closing met x room ≡ cond (leb (x.written + answer_size) room) (answer (number x.answer) ∷ []) []
   closing-other Answered room e = refl
   closing-other More room e = absurd (e refl)
   closing-other TooLong room e = refl
@@ -62,12 +63,12 @@ module _ (run : Run) (ahead : Ahead) (x : Stepped) (before : List ℕ) where
       pub close-full : length before - answer_size < x.written → Closes run ahead x before (record { run = run'; written = x.written; met = ahead.met }) before
       close-full l = let k : length before < x.written + answer_size = omega arith in silent (rw (closing-other ahead.met (length before) e, lt-leb _ _ k))
 
-      pub close-answers : {after : List ℕ} {n : ℕ} → x.written ≤ length before - answer_size
-          → Put before x.written answer_size (enc (answer x.answer)) after n
+      pub close-answers : {after : List ℕ} {a n : ℕ} → x.written ≤ length before - answer_size → a ≡ number x.answer
+          → Put before x.written answer_size (enc (answer a)) after n
           → Closes run ahead x before (record { run = run'; written = n; met = ahead.met }) after
-      close-answers l p =
+      close-answers l i p =
           let k : x.written + answer_size ≤ length before = omega arith in
-          record { next = refl; met = refl; wrote = rw (closing-other ahead.met (length before) e, le-leb _ _ k) (wrote_one (answer x.answer) p) }
+          record { next = refl; met = refl; wrote = rw (closing-other ahead.met (length before) e, le-leb _ _ k) (wrote_one (answer (number x.answer)) (rw i at p)) }
 
 -- ---- it fits
 
@@ -79,6 +80,6 @@ fits_by true n room written e h =
 fits_by false n room written e h = rw all_none (omega arith)
 
 pub closing-fits : (met : Met) (x : Stepped) (room : ℕ) → x.written ≤ room → x.written + length (enc_all (closing met x room)) ≤ room
-closing-fits Answered x room h = fits_by (leb (x.written + answer_size) room) x.answer room x.written refl h
+closing-fits Answered x room h = fits_by (leb (x.written + answer_size) room) (number x.answer) room x.written refl h
 closing-fits More x room h = rw all_none (omega arith)
-closing-fits TooLong x room h = fits_by (leb (x.written + answer_size) room) x.answer room x.written refl h
+closing-fits TooLong x room h = fits_by (leb (x.written + answer_size) room) (number x.answer) room x.written refl h

@@ -12,6 +12,7 @@ use native.Mathlib.Nat.{zero-add}
 use native.Mathlib.Omega.{arith}
 use lib.ListN.{length, drop, length-append, length-drop}
 use lib.Seq.{sets-eq}
+use Rattle.certificates.specs.Error.{number}
 use Rattle.std.specs.Prelude.{None}
 use Rattle.certificates.specs.Error.{bad_record}
 use Rattle.trace.specs.Part.{between}
@@ -78,8 +79,8 @@ module _ (w : World) (room : ℕ) (s : List ℕ) where
 
 -- ---- what an event left
 
-module _ {x : Stepped} {stakes votes timeouts out₁ : List ℕ} {table : List Slot} (y : Result) (out : List ℕ) (p : step.left_by x stakes votes timeouts table out₁ ≡ laid y out) where
-  left-answer : x.answer ≡ y.answer
+module _ (x : Stepped) {stakes votes timeouts out₁ : List ℕ} {table : List Slot} (y : Result) (out : List ℕ) (p : step.left_by x stakes votes timeouts table out₁ ≡ laid y out) where
+  left-answer : number x.answer ≡ y.answer
   unfolding laid
   left-answer = ap (λ (l : step.Left). l.answer) p
 
@@ -110,7 +111,7 @@ module _ {x : Stepped} {stakes votes timeouts out₁ : List ℕ} {table : List S
         room = omega arith;
       }
 
-same-ending : (x : Stepped) (y : Result) (room : ℕ) → x.written ≡ length (enc_all y.outs) → x.answer ≡ y.answer → (met : Met) → closing met x room ≡ ending met room y
+same-ending : (x : Stepped) (y : Result) (room : ℕ) → x.written ≡ length (enc_all y.outs) → number x.answer ≡ y.answer → (met : Met) → closing met x room ≡ ending met room y
 same-ending x y room w a Answered = rw (w, a)
 same-ending x y room w a More = refl
 same-ending x y room w a TooLong = rw (w, a)
@@ -151,13 +152,13 @@ module _ (run : Run) (stakes votes timeouts : List ℕ) (table : List Slot) (out
   to_is = ap (λ (z : Ahead). z.to) a ∙ ahead-to (split_of s) run.at s
 
   closing-is : closing ahead.met x (length out₁) ≡ ending (ahead_by (split_of s) 0 s).met (length out) y
-  closing-is = rw (met-is, l) (same-ending x y (length out) (left-written y out p') (left-answer y out p') _)
+  closing-is = rw (met-is, l) (same-ending x y (length out) (left-written x y out p') (left-answer x y out p') _)
 
   wrote : Wrote (x.written + answer_size) (y.outs ++ ending (ahead_by (split_of s) 0 s).met (length out) y) out 0 out₂ r.written
-  wrote = wrote_then (left-wrote y out p' l) (rw closing-is at c.wrote)
+  wrote = wrote_then (left-wrote x y out p' l) (rw closing-is at c.wrote)
 
   pub turn-fits : r.written ≤ length out
-  turn-fits = omega (arith, l, closing-fits ahead.met x (length out₁) (rw l (step_fits y out p' l)), c.wrote.place)
+  turn-fits = omega (arith, l, closing-fits ahead.met x (length out₁) (rw l (step_fits x y out p' l)), c.wrote.place)
 
   pub turn-room : x.written ≤ room_for (length table) → r.written ≤ room_for (length table) + answer_size
   turn-room h = omega (arith, c.wrote.room)
@@ -175,7 +176,7 @@ module _ (run : Run) (stakes votes timeouts : List ℕ) (table : List Slot) (out
   left_is =
       same_left
       (c.met ∙ met-is)
-      (ap (λ (z : Run). world z.seat stakes' z.core votes' timeouts' table') c.next ∙ left-world y out p')
+      (ap (λ (z : Run). world z.seat stakes' z.core votes' timeouts' table') c.next ∙ left-world x y out p')
       (ap (λ (z : Run). z.at) c.next ∙ to_is)
       (ap (λ (z : Run). z.have) c.next)
       (wrote_count wrote)

@@ -12,6 +12,7 @@ use Rattle.trace.specs.declared.record.Front.{Front}
 use Rattle.trace.specs.declared.record.Front.TheVariants.{End, Cut, Small, Record}
 use Rattle.outputs.specs.Records.{Rec, answer, answer_size}
 use Rattle.outputs.specs.Put.{Wrote}
+use Rattle.certificates.specs.Error.{number}
 use Rattle.replica.specs.declared.stages.Stepped.{Stepped}
 use Rattle.replica.specs.declared.step.Order.{Order}
 use Rattle.turns.specs.Turn.{is_too_long}
@@ -44,9 +45,9 @@ abbrev pub order_at : Run → Ahead → Order
 order_at run ahead = record { seat = run.seat; core = run.core; from = ahead.from; to = ahead.to }
 
 abbrev pub closing : Met → Stepped → ℕ → List Rec
-closing Answered x room = cond (leb (x.written + answer_size) room) (answer x.answer ∷ []) []
+closing Answered x room = cond (leb (x.written + answer_size) room) (answer (number x.answer) ∷ []) []
 closing More x room = []
-closing TooLong x room = cond (leb (x.written + answer_size) room) (answer x.answer ∷ []) []
+closing TooLong x room = cond (leb (x.written + answer_size) room) (answer (number x.answer) ∷ []) []
 
 pub record Closes (run : Run) (ahead : Ahead) (x : Stepped) (before : List ℕ) (r : Turned) (after : List ℕ) : Type 0 where
   pub next : r.run ≡ record { seat = x.seat; core = x.core; at = ahead.to; have = run.have }

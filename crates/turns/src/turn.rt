@@ -8,6 +8,7 @@ ghost use Rattle.replica.specs.Step.{world};
 ghost use Rattle.turns.specs.Turn.{turned, laid_in, left_by};
 ghost use Rattle.turns.specs.Code.{cut_met, ahead_of, order_at, Closes};
 
+use certificates::error::number;
 use certificates::num::u16_at;
 use moves::state::Core;
 use outputs::records::{ANSWER_SIZE, put_answer};
@@ -114,7 +115,7 @@ pub(crate) fn close(out: &mut [u8], run: Run, ahead: Ahead, s: Stepped) -> Turne
         have: run.have,
     };
     if ahead.met != Met::More && ANSWER_SIZE <= out.len() && s.written <= out.len() - ANSWER_SIZE {
-        let written = put_answer(out, s.written, s.answer);
+        let written = put_answer(out, s.written, number(s.answer));
         return Turned {
             run: next,
             written,

@@ -5,7 +5,7 @@ use Rattle.turns.proofs.turn.close.Goals as goal
 use Rattle.turns.proofs.turn.close.Goals.{else-ne-via-then-ne+then-out-ge-ANSWER_SIZE+else-s-out, else-ne-via-then-ne+else-out-ge-ANSWER_SIZE, else-ne-via-else-ne}
 
 pub returns-then-s-out : goal.returns-then-s-out
-returns-then-s-out c = close-answers _ _ _ _ (not_more _ c.if-ne.ensures) c.if-out-ge-ANSWER_SIZE.true c.if-s-out.true c.put_answer-written.ensures
+returns-then-s-out c = close-answers _ _ _ _ (not_more _ c.if-ne.ensures) c.if-out-ge-ANSWER_SIZE.true c.if-s-out.true c.number.ensures c.put_answer-written.ensures
 
 pub returns : goal.returns
 returns c =
