@@ -350,18 +350,18 @@ module _ (M : Members) (C : Cabinets M) (p : ℕ) (o : Sits M p) where
           inr (record {
             content = content_of (block_in r i);
             goes = (g, refl);
-            b1 = (ancestors_of t b).b1;
+            b1 = b1_of t b;
             other1 = c.other1;
             on1 = c.on1;
             found1 = inl c.has1;
-            b0 = (ancestors_of t b).b0;
+            b0 = b0_of t b;
             other0 = c.other0;
             on0 = c.on0;
             found0 = inl c.has0;
             consecutive = omega (arith, k.next);
             newer = k.newer;
             slots = (deliveries_at r i).blocks;
-            walk = walked_as (λ s h. inr h) (walk-slots (result_at r i).world.table (committed_of (world_at r i)) (ancestors_of t b).b0 (deliveries_at r i).blocks k.walk);
+            walk = walked_as (λ s h. inr h) (walk-slots (result_at r i).world.table (committed_of (world_at r i)) (b0_of t b) (deliveries_at r i).blocks k.walk);
             written = refl;
             recorded = (deliveries_at r i).are;
             kept = rw (core-next r i) k.last;
