@@ -11,9 +11,10 @@ use Rattle.certificates.specs.Error.{ancestor_absent, round_not_below}
 use Rattle.certificates.specs.Messages.{is_genesis}
 use Rattle.std.specs.Prelude.{Option, is_some}
 use Rattle.synchronizer.specs.declared.table.Slot.{Slot}
-use Rattle.synchronizer.specs.Table.{stored, parent_of, slot_in, ancestors_of}
+use Rattle.synchronizer.specs.Table.{stored, parent_of, slot_in, b0_of, b1_of, ancestors_of, found_number}
 use Rattle.synchronizer.specs.Walk.{refused, delivers, walk_of}
-use Rattle.synchronizer.proofs.Lookups.{Has, parent-has, parent-genesis, Closed, closed-stored, closed-ancestors, stays-found, ancestors-both, Line, line, stored-has, Stopped, no-b0, in-walk, Sure, walk-delivers}
+use Rattle.synchronizer.proofs.TableLaws.{ancestors-both}
+use Rattle.synchronizer.proofs.Lookups.{Has, parent-has, parent-genesis, Closed, closed-stored, closed-ancestors, stays-found, Line, line, stored-has, Stopped, no-b0, in-walk, Sure, walk-delivers}
 use Rattle.replica.specs.Blocks.{slot_for}
 use Rattle.runs.specs.Runs.{committed_of}
 use Rattle.runs.specs.Courses.{Course}

@@ -25,7 +25,7 @@ use Rattle.trace.proofs.PartLaws.{qc-part-hash, qc-part-round, tc-part-round, hi
 use Rattle.trace.proofs.FieldLaws.{block-qc-hash, block-qc-round, block-tc-round, block-tc-high}
 use Rattle.outputs.specs.Records.{Rec, vote, timeout, tc, make, make_with, commit, sync, clean_proposer, clean_mempool, timer_reset, answer}
 use Rattle.synchronizer.specs.declared.table.Slot.{Slot}
-use Rattle.synchronizer.specs.Table.{cleared, ancestors_of}
+use Rattle.synchronizer.specs.Table.{cleared, b0_of, b1_of}
 use Rattle.synchronizer.specs.Settle.{commit_rec}
 use Rattle.synchronizer.proofs.Lookups.{Has, cleared-has, line, walked_as, walk-slots}
 use Rattle.moves.specs.declared.state.Core.{Core}
