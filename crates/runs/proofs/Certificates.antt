@@ -24,7 +24,7 @@ use Rattle.certificates.specs.declared.messages.QC.{QC}
 use Rattle.certificates.specs.Config.{members_max, quorum_of}
 use Rattle.certificates.specs.Num.{le, num_at, hash_at, nums_at}
 use Rattle.certificates.specs.Signers.{bit_of, is_in, words, no_signers, with_signer, signers_from, signers_of, member}
-use Rattle.certificates.specs.Messages.{qc_form, tc_form, is_genesis, verdict_in, count_of, places_in, check_part, qc_check, equals_genesis}
+use Rattle.certificates.specs.Messages.{qc_form, is_genesis, verdict_in, count_of, places_in, check_part, qc_check, equals_genesis}
 use Rattle.certificates.proofs.Places.{member-take}
 use Rattle.certificates.proofs.Accepted.{Distinct, named-accepted, qc-part, tc-part, embedded-part, certified, walked-distinct}
 use Rattle.certificates.proofs.Sets.{in-low}
