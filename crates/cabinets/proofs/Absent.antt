@@ -11,9 +11,10 @@ use Rattle.certificates.specs.Error.{ancestor_absent, round_not_below}
 use Rattle.certificates.specs.Messages.{is_genesis}
 use Rattle.std.specs.Prelude.{Option, is_some}
 use Rattle.synchronizer.specs.declared.table.Slot.{Slot}
-use Rattle.synchronizer.specs.Table.{stored, parent_of, slot_in, ancestors_of}
+use Rattle.synchronizer.specs.Table.{stored, parent_of, slot_in, b0_of, b1_of, ancestors_of, found_number}
 use Rattle.synchronizer.specs.Walk.{refused, delivers, walk_of}
-use Rattle.synchronizer.proofs.Lookups.{Has, parent-has, parent-genesis, Closed, closed-stored, closed-ancestors, stays-found, ancestors-both, Line, line, stored-has, Stopped, no-b0, in-walk, Sure, walk-delivers}
+use Rattle.synchronizer.proofs.TableLaws.{ancestors-both}
+use Rattle.synchronizer.proofs.Lookups.{Has, parent-has, parent-genesis, Closed, closed-stored, closed-ancestors, stays-found, Line, line, stored-has, Stopped, no-b0, in-walk, Sure, walk-delivers}
 use Rattle.replica.specs.Blocks.{slot_for}
 use Rattle.runs.specs.Runs.{committed_of}
 use Rattle.runs.specs.Courses.{Course}
@@ -90,7 +91,7 @@ module _ (M : Members) (C : Cabinets M) where
     known-stored : (s : Slot) → Has (stored t b) s → Known s
     known-stored s h = ⊎_elim (λ (e : s ≡ b). rw e known-block) (λ k. known-here s k) (stored-has t b s h)
 
-    module _ (found : (ancestors_of t b).answer ≡ 0) (newer : last < (ancestors_of t b).b0.round.0) (consecutive : (ancestors_of t b).b0.round.0 + 1 ≡ (ancestors_of t b).b1.round.0) where
+    module _ (found : found_number (ancestors_of t b) ≡ 0) (newer : last < (b0_of t b).round.0) (consecutive : (b0_of t b).round.0 + 1 ≡ (b1_of t b).round.0) where
       closed : Closed (stored t b)
       closed = closed-stored t b (closed_at r i) refl (ancestors-both t b found).0
 
@@ -103,11 +104,11 @@ module _ (M : Members) (C : Cabinets M) where
       ancestors : Line t b
       ancestors = line t b found (omega arith) (omega arith)
 
-      first : Walks (ancestors_of t b).b0
+      first : Walks (b0_of t b)
       first =
           let a = ancestors in
-          let b1 = (ancestors_of t b).b1 in
-          let b0 = (ancestors_of t b).b0 in
+          let b1 = b1_of t b in
+          let b0 = b0_of t b in
           let k1 = known-here b1 a.has1 in
           let k0 = known-here b0 a.has0 in
           let c1 : Backed P B b1.digest =
@@ -142,9 +143,9 @@ module _ (M : Members) (C : Cabinets M) where
                 next = λ u. record { knows = l; certified = parent-backed s c k.knows l k.certified g h.1; parent = closed.parent c h.0 };
               }
 
-      walk_ends : (n : ℕ) → walk_of (stored t b) (ancestors_of t b).b0 last ≡ refused n → ⊥
+      walk_ends : (n : ℕ) → walk_of (stored t b) (b0_of t b) last ≡ refused n → ⊥
       walk_ends n e =
-          let d = walk-delivers (stored t b) last Walks sure (ancestors_of t b).b0 first in
+          let d = walk-delivers (stored t b) last Walks sure (b0_of t b) first in
           let x : refused n ≡ delivers d.0 = sym e ∙ d.1 in
           let z : ◌≡◌ {A = ℕ} 0 1 = cc in
           omega arith

@@ -25,7 +25,7 @@ use Rattle.trace.proofs.PartLaws.{qc-part-hash, qc-part-round, tc-part-round, hi
 use Rattle.trace.proofs.FieldLaws.{block-qc-hash, block-qc-round, block-tc-round, block-tc-high}
 use Rattle.outputs.specs.Records.{Rec, vote, timeout, tc, make, make_with, commit, sync, clean_proposer, clean_mempool, timer_reset, answer}
 use Rattle.synchronizer.specs.declared.table.Slot.{Slot}
-use Rattle.synchronizer.specs.Table.{cleared, ancestors_of}
+use Rattle.synchronizer.specs.Table.{cleared, b0_of, b1_of}
 use Rattle.synchronizer.specs.Settle.{commit_rec}
 use Rattle.synchronizer.proofs.Lookups.{Has, cleared-has, line, walked_as, walk-slots}
 use Rattle.moves.specs.declared.state.Core.{Core}
@@ -350,18 +350,18 @@ module _ (M : Members) (C : Cabinets M) (p : ℕ) (o : Sits M p) where
           inr (record {
             content = content_of (block_in r i);
             goes = (g, refl);
-            b1 = (ancestors_of t b).b1;
+            b1 = b1_of t b;
             other1 = c.other1;
             on1 = c.on1;
             found1 = inl c.has1;
-            b0 = (ancestors_of t b).b0;
+            b0 = b0_of t b;
             other0 = c.other0;
             on0 = c.on0;
             found0 = inl c.has0;
             consecutive = omega (arith, k.next);
             newer = k.newer;
             slots = (deliveries_at r i).blocks;
-            walk = walked_as (λ s h. inr h) (walk-slots (result_at r i).world.table (committed_of (world_at r i)) (ancestors_of t b).b0 (deliveries_at r i).blocks k.walk);
+            walk = walked_as (λ s h. inr h) (walk-slots (result_at r i).world.table (committed_of (world_at r i)) (b0_of t b) (deliveries_at r i).blocks k.walk);
             written = refl;
             recorded = (deliveries_at r i).are;
             kept = rw (core-next r i) k.last;

@@ -48,7 +48,7 @@ use Rattle.handlers.specs.Proposals.{leader_check, qc_found, tc_number, proposal
 use Rattle.handlers.proofs.VoteTheorems.{Votes, tallied-votes}
 use Rattle.handlers.proofs.ProposalTheorems.{proposal-refused, proposal-takes, certificates-keep}
 use Rattle.replica.specs.Started.{roomy}
-use Rattle.replica.specs.Blocks.{slot_for, work_for, settled_for, processed, going_on}
+use Rattle.replica.specs.Blocks.{slot_for, arrival_for, settled_for, processed, going_on}
 use Rattle.replica.specs.Step.{World, Result, committee, handled, stepped}
 use Rattle.replica.proofs.StartedLaws.{started-ready}
 use Rattle.runs.specs.Runs.{Event, step_on, committed_of}
@@ -302,7 +302,7 @@ module _ (w : World) (e : Event) (t : Stake) (s : Started w t) (n : ℕ) (is : (
       let ne : n ≡ 0 → ⊥ = λ z. ⊎_elim (λ i. omega arith) (λ i. omega arith) is in
       let nw : n ≡ wait_parent → ⊥ = λ z. ⊎_elim (λ i. omega arith) (λ i. omega arith) is in
       let nf : n ≡ table_full → ⊥ = λ z. ⊎_elim (λ i. omega arith) (λ i. omega arith) is in
-      rw (ap (λ (x : Round). x.0) same) at (settled-stopped w.table (work_for b u.core.last_committed_round 0) n ne nw nf refl k.0)
+      rw (ap (λ (x : Round). x.0) same) at (settled-stopped w.table (arrival_for b u.core.last_committed_round 0) n ne nw nf k.0)
 
   pub record StoppedIn : Type 0 where
     pub brought : Passed w e ⊎ Looped w e

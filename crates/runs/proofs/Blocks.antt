@@ -23,12 +23,12 @@ use Rattle.trace.specs.declared.events.Block.{Block}
 use Rattle.outputs.specs.Records.{Rec, sync, clean_proposer, clean_mempool}
 use Rattle.aggregator.specs.Tallies.{votes_length, timeouts_length}
 use Rattle.synchronizer.specs.declared.table.Slot.{Slot}
-use Rattle.synchronizer.specs.declared.settle.Work.{Work}
-use Rattle.synchronizer.specs.Table.{place_of, stored, ancestors_of}
+use Rattle.synchronizer.specs.declared.settle.Arrival.{Arrival}
+use Rattle.synchronizer.specs.Table.{place_of, stored, b0_of, b1_of, ancestors_of, found_number}
 use Rattle.synchronizer.specs.Walk.{Walk, refused as stopped, delivers, walk_of, committed_by, commit_of, no_commit}
-use Rattle.synchronizer.specs.Settle.{Settlement, answered, is_two_chain, clean_of, commit_if, commit_rec, linked_of, processed_by, processed_of, wait_of, asking}
+use Rattle.synchronizer.specs.Settle.{Settlement, answered, is_two_chain, clean_of, commit_if, commit_rec, linked_of, processed_of, wait_of, asking}
 use Rattle.synchronizer.proofs.WalkLaws.{Rising, commit-rising}
-use Rattle.synchronizer.proofs.SettleLaws.{settled-block}
+use Rattle.synchronizer.proofs.SettleLaws.{processed-is, settled-block}
 use Rattle.moves.specs.declared.state.Core.{Core}
 use Rattle.moves.specs.State.{State, with_committed, with_high}
 use Rattle.moves.specs.Outcome.{Step, Outcome, done, after}
@@ -39,7 +39,7 @@ use Rattle.handlers.specs.Sound.{signers_of}
 use Rattle.handlers.specs.Votes.{voting}
 use Rattle.handlers.specs.Proposals.{qc_found, taken, proposal_of}
 use Rattle.handlers.proofs.ProposalTheorems.{proposal-goes-on, proposal-keeps, advanced-tc-keeps}
-use Rattle.replica.specs.Blocks.{slot_for, work_for, settled_for, settled_step, after_settled, processed, processed_table, going_on, going_on_table}
+use Rattle.replica.specs.Blocks.{slot_for, arrival_for, settled_for, settled_step, after_settled, processed, processed_table, going_on, going_on_table}
 use Rattle.runs.specs.Runs.{only, is_signed, is_commit, signed_in, delivered_in}
 use Rattle.runs.proofs.Lists.{only-append}
 use Rattle.runs.proofs.Plain.{round_in, high_in, Silent, Plain, silent-none, plain-proposal}
@@ -76,7 +76,7 @@ silent-clean b0 b1 b = cases (is_two_chain b0 b1)
     cases true = record { signs = refl; delivers = refl }
     cases false = record { signs = refl; delivers = refl }
 
-silent-wait : (w : Work) (n : ℕ) → Silent (wait_of w n)
+silent-wait : (w : Arrival) (n : ℕ) → Silent (wait_of w n)
 unfolding wait_of only
 silent-wait w n = cases (eqb n wait_parent)
   where
@@ -85,12 +85,12 @@ silent-wait w n = cases (eqb n wait_parent)
     cases false = record { signs = refl; delivers = refl }
 
 -- a commit of b0 over the table t'
-module _ (b : Slot) (t t' : List Slot) (low : ℕ) (found : (ancestors_of t b).answer ≡ 0) where
+module _ (b : Slot) (t t' : List Slot) (low : ℕ) (found : found_number (ancestors_of t b) ≡ 0) where
   abbrev b0 : Slot
-  b0 = (ancestors_of t b).b0
+  b0 = b0_of t b
 
   abbrev b1 : Slot
-  b1 = (ancestors_of t b).b1
+  b1 = b1_of t b
 
   by-walk : b0.round.0 + 1 ≡ b1.round.0 → low < b0.round.0 → (w : Walk) → walk_of t' b0 low ≡ w
       → Deliveries b t t' low (committed_by b0 low w).blocks (committed_by b0 low w).last
@@ -111,12 +111,12 @@ module _ (b : Slot) (t t' : List Slot) (low : ℕ) (found : (ancestors_of t b).a
   unfolding commit_if
   commit-if = by_chain (is_two_chain b0 b1) refl
 
-settled-linked : (t : List Slot) (b : Slot) (low : ℕ) → (ancestors_of t b).answer ≡ 0 → Settled b t low (linked_of (stored t b) b (ancestors_of t b).b0 (ancestors_of t b).b1 low)
+settled-linked : (t : List Slot) (b : Slot) (low : ℕ) → found_number (ancestors_of t b) ≡ 0 → Settled b t low (linked_of (stored t b) b (b0_of t b) (b1_of t b) low)
 unfolding linked_of
 settled-linked t b low found =
-    let bs = (commit_if (stored t b) (ancestors_of t b).b0 (ancestors_of t b).b1 low).blocks in
-    let clean = clean_of (ancestors_of t b).b0 (ancestors_of t b).b1 b in
-    let c = silent-clean (ancestors_of t b).b0 (ancestors_of t b).b1 b in
+    let bs = (commit_if (stored t b) (b0_of t b) (b1_of t b) low).blocks in
+    let clean = clean_of (b0_of t b) (b1_of t b) b in
+    let c = silent-clean (b0_of t b) (b1_of t b) b in
     record {
       signs = only-append is_signed clean (map commit_rec bs) ∙ rw c.signs (commits-signed bs);
       blocks = bs;
@@ -125,19 +125,18 @@ settled-linked t b low found =
       stores = inr (refl, found);
     }
 
-settled-by : (t : List Slot) (w : Work) → Settled w.block t w.last.0 (processed_of t w)
-unfolding processed_by
-settled-by t w = cases (eqb (ancestors_of t w.block).answer 0) refl (ltb (place_of t w.block) (length t))
+settled-by : (t : List Slot) (w : Arrival) → Settled w.block t w.last.0 (processed_of t w)
+settled-by t w = rw (processed-is t w) (cases (eqb (found_number (ancestors_of t w.block)) 0) refl (ltb (place_of t w.block) (length t)))
   where
-    cases : (u : Bool) → eqb (ancestors_of t w.block).answer 0 ≡ u → (v : Bool) → Settled w.block t w.last.0
-        (cond u (cond v (linked_of (stored t w.block) w.block (ancestors_of t w.block).b0 (ancestors_of t w.block).b1 w.last.0) (answered table_full t w.last.0 []))
-        (answered (ancestors_of t w.block).answer t w.last.0 []))
+    cases : (u : Bool) → eqb (found_number (ancestors_of t w.block)) 0 ≡ u → (v : Bool) → Settled w.block t w.last.0
+        (cond u (cond v (linked_of (stored t w.block) w.block (b0_of t w.block) (b1_of t w.block) w.last.0) (answered table_full t w.last.0 []))
+        (answered (found_number (ancestors_of t w.block)) t w.last.0 []))
     cases true e true = settled-linked t w.block w.last.0 (eqb-true _ _ e)
     cases true e false = settled-none table_full w.block t w.last.0 [] silent-none
-    cases false e v = settled-none (ancestors_of t w.block).answer w.block t w.last.0 [] silent-none
+    cases false e v = settled-none (found_number (ancestors_of t w.block)) w.block t w.last.0 [] silent-none
 
 -- SYNC neither signs nor delivers
-settled-asking : (w : Work) (t : List Slot) (p : Settlement) → Settled w.block t w.last.0 p → Settled w.block t w.last.0 (asking w p)
+settled-asking : (w : Arrival) (t : List Slot) (p : Settlement) → Settled w.block t w.last.0 p → Settled w.block t w.last.0 (asking w p)
 settled-asking w t p h =
     let c = silent-wait w p.answer in
     record {
@@ -151,8 +150,8 @@ settled-asking w t p h =
 pub settled-for : (s : State) (t : List Slot) (b : Block) → Settled (slot_for b) t (committed_in s.core) (settled_for s t b)
 unfolding settled_for
 settled-for s t b =
-    let w = work_for b s.core.last_committed_round 0 in
-    rw (settled-block t w refl) (settled-asking w t (processed_of t w) (settled-by t w))
+    let w = arrival_for b s.core.last_committed_round 0 in
+    rw (settled-block t w) (settled-asking w t (processed_of t w) (settled-by t w))
 
 -- ---- what is delivered
 
@@ -166,8 +165,8 @@ pub deliveries-rising : {b : Slot} {t t' blocks : List Slot} {low high : ℕ} �
 unfolding Rising
 deliveries-rising (none e f) = rw (e, f) refl
 deliveries-rising {b} {t} {t'} {blocks} {low} (some k) =
-    let e = commit-of (ancestors_of t b).b0 t' low blocks k.newer k.walk in
-    rw k.last (rw e at (commit-rising t' (ancestors_of t b).b0 low))
+    let e = commit-of (b0_of t b) t' low blocks k.newer k.walk in
+    rw k.last (rw e at (commit-rising t' (b0_of t b) low))
 
 -- ---- LOOPBACK and PROPOSE
 

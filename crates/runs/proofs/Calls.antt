@@ -10,6 +10,7 @@ use mathlib.Core.List.{List, [], ◌∷◌, map}
 use mathlib.Core.Path.{◌≡◌, refl, sym, ◌∙◌, ap}
 use lib.ListN.{length, take, drop}
 use lib.Seq.{take-append_seam}
+use Rattle.certificates.specs.Error.{number}
 use Rattle.outputs.specs.Records.{enc_all}
 use Rattle.outputs.proofs.Wrote.{all_none, all_append}
 use Rattle.replica.specs.Step.{World, Result, Left, laid, stepped}
@@ -42,11 +43,11 @@ unfolding results laid_all
 runs-by-definition w [] p = refl
 runs-by-definition w (c ∷ cs) p = rw (call-is w c cs p, runs-by-definition (next w (stage_of c)) cs (next-played w c cs p))
 
-pub answers-by-definition : (w : World) (cs : List Call) → Played w cs → map (λ (c : Call). c.gives.answer) cs ≡ map (λ (x : Result). x.answer) (results w (map stage_of cs))
+pub answers-by-definition : (w : World) (cs : List Call) → Played w cs → map (λ (c : Call). number c.gives.answer) cs ≡ map (λ (x : Result). x.answer) (results w (map stage_of cs))
 unfolding results
 answers-by-definition w [] p = refl
 answers-by-definition w (c ∷ cs) p =
-    let e : c.gives.answer ≡ (step_on w (stage_of c).event).answer = ap (λ (l : Left). l.answer) (call-is w c cs p) ∙ laid-answer (step_on w (stage_of c).event) c.out in
+    let e : number c.gives.answer ≡ (step_on w (stage_of c).event).answer = ap (λ (l : Left). l.answer) (call-is w c cs p) ∙ laid-answer (step_on w (stage_of c).event) c.out in
     rw (e, answers-by-definition (next w (stage_of c)) cs (next-played w c cs p))
 
 pub worlds-by-definition : (w : World) (cs : List Call) → Played w cs → map (λ (c : Call). (left c).world) cs ≡ map (λ (x : Result). x.world) (results w (map stage_of cs))

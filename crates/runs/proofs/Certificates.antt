@@ -24,7 +24,7 @@ use Rattle.certificates.specs.declared.messages.QC.{QC}
 use Rattle.certificates.specs.Config.{members_max, quorum_of}
 use Rattle.certificates.specs.Num.{le, num_at, hash_at, nums_at}
 use Rattle.certificates.specs.Signers.{bit_of, is_in, words, no_signers, with_signer, signers_from, signers_of, member}
-use Rattle.certificates.specs.Messages.{Form, qc_form, tc_form, is_genesis, verdict_in, count_of, places_in, check_part, qc_check, equals_genesis}
+use Rattle.certificates.specs.Messages.{qc_form, is_genesis, verdict_in, count_of, places_in, check_part, qc_check, equals_genesis}
 use Rattle.certificates.proofs.Places.{member-take}
 use Rattle.certificates.proofs.Accepted.{Distinct, named-accepted, qc-part, tc-part, embedded-part, certified, walked-distinct}
 use Rattle.certificates.proofs.Sets.{in-low}
@@ -204,7 +204,7 @@ signers-word s [] h a = h
 signers-word s (p ∷ ps) h a =
     signers-word (with_signer s p) ps (or_lt members_max s.0 (2 ^ p) h (pow-lt (a 0 (omega arith)))) (λ j l. a (suc j) (omega arith))
 
-same-signers : (f : Form) (m part : List ℕ) (s : Signers) → Quorate m s → places_in f part ≡ places_of s.0
+same-signers : (f : _) (m part : List ℕ) (s : Signers) → Quorate m s → places_in f part ≡ places_of s.0
     → check_part f m (quorum_of m) part ≡ Ok (signers_of (places_in f part)) → check_part f m (quorum_of m) part ≡ Ok s
 unfolding signers_of
 same-signers f m part s k e h =
@@ -215,7 +215,7 @@ same-signers f m part s k e h =
     sym (in-low t.0 [] p l) ∙ c.clean.bits p ∙ ap (λ (ps : List ℕ). cond (member p ps) 1 0) e ∙ sym (word-bits s p) ∙ in-low s.0 [] p l in
     h ∙ ap Ok (ap (λ (x : ℕ). record { 0 = x }) (word_same members_max t.0 s.0 word k.word bits))
 
--- ---- a certificate of a quorum is accepted, whatever stands before its result
+-- ---- a certificate of a quorum is accepted, whatever stands before its result; the verdict is `at` bytes in, and an entry of the list `stride` bytes long
 
 abbrev count : Signers → ℕ
 count s = length (places_of s.0)
@@ -224,37 +224,37 @@ count_ones : (m : List ℕ) (s : Signers) → Quorate m s → ones s.0 ≡ count
 unfolding places_of
 count_ones m s k = sym (length-places members_max 0 s.0 k.word)
 
-module _ (f : Form) (m : List ℕ) (s : Signers) (k : Quorate m s) (front list : List ℕ) where
-  module _ {part : List ℕ} (is : part ≡ front ++ (digits 1 1 ++ (digits 2 (count s) ++ list))) (at_front : length front ≡ f.at) (size : length list ≡ f.stride * count s)
-      (listed : nums_at 2 f.stride (count s) ((front ++ (digits 1 1 ++ digits 2 (count s))) ++ list) (f.at + 3) ≡ places_of s.0) where
+module _ (at stride : ℕ) (m : List ℕ) (s : Signers) (k : Quorate m s) (front list : List ℕ) where
+  module _ {part : List ℕ} (is : part ≡ front ++ (digits 1 1 ++ (digits 2 (count s) ++ list))) (at_front : length front ≡ at) (size : length list ≡ stride * count s)
+      (listed : nums_at 2 stride (count s) ((front ++ (digits 1 1 ++ digits 2 (count s))) ++ list) (at + 3) ≡ places_of s.0) where
     few : count s ≤ members_max
     unfolding places_of
     few = places-most members_max 0 s.0
 
-    verdict-yes : verdict_in f part ≡ 1
+    verdict-yes : verdict_in (record { at = at; stride = stride }) part ≡ 1
     unfolding verdict_in
     verdict-yes = rw (is, ← at_front) (num-back 1 1 front (digits 2 (count s) ++ list) (lit< tt))
 
-    count-is : count_of f part ≡ count s
+    count-is : count_of (record { at = at; stride = stride }) part ≡ count s
     unfolding count_of
     count-is =
-        let l : length (front ++ digits 1 1) ≡ f.at + 1 = rw (length-append, length_digits, at_front) in
+        let l : length (front ++ digits 1 1) ≡ at + 1 = rw (length-append, length_digits, at_front) in
         let e : part ≡ (front ++ digits 1 1) ++ (digits 2 (count s) ++ list) = is ∙ sym (append_assoc front (digits 1 1) (digits 2 (count s) ++ list)) in
         rw (e, ← l) (num-back 2 (count s) (front ++ digits 1 1) list (omega (arith, few)))
 
-    places-are : places_in f part ≡ places_of s.0
+    places-are : places_in (record { at = at; stride = stride }) part ≡ places_of s.0
     unfolding places_in
     places-are =
         let e : part ≡ (front ++ (digits 1 1 ++ digits 2 (count s))) ++ list = is ∙ simp append_assoc in
         rw (count-is, e) listed
 
-    whole : f.at + 3 + f.stride * count_of f part ≤ length part
+    whole : at + 3 + stride * count_of (record { at = at; stride = stride }) part ≤ length part
     whole = rw count-is (rw (is, length-append, length-append, length-append, length_digits 1 1, length_digits 2 (count s)) (omega (arith, at_front, size)))
 
-    accepted-bytes : check_part f m (quorum_of m) part ≡ Ok s
+    accepted-bytes : check_part (record { at = at; stride = stride }) m (quorum_of m) part ≡ Ok s
     accepted-bytes =
-        same-signers f m part s k places-are
-        (named-accepted f m (quorum_of m) part s whole (rw places-are (quorate-distinct m s k)) (λ q. rw places-are (word-bits s q)) k.quorum verdict-yes)
+        same-signers (record { at = at; stride = stride }) m part s k places-are
+        (named-accepted (record { at = at; stride = stride }) m (quorum_of m) part s whole (rw places-are (quorate-distinct m s k)) (λ q. rw places-are (word-bits s q)) k.quorum verdict-yes)
 
 three-more : (front : List ℕ) (n : ℕ) {at : ℕ} → length front ≡ at → length (front ++ (digits 1 1 ++ digits 2 n)) ≡ at + 3
 three-more front n e = rw (length-append, length-append, length_digits 1 1, length_digits 2 n, e)
@@ -272,7 +272,7 @@ module _ (m : List ℕ) where
       let front = hash_bytes q.hash ++ digits 8 q.round.0 in
       let past = digits 1 1 ++ (digits 2 (count s) ++ bytes_of (map (number 2) ps)) in
       rw (count_ones m s k)
-      (accepted-bytes qc_form m s k front (bytes_of (map (number 2) ps)) (sym (append_assoc (hash_bytes q.hash) (digits 8 q.round.0) past)) (hash-length q) (twos-length ps)
+      (accepted-bytes 40 2 m s k front (bytes_of (map (number 2) ps)) (sym (append_assoc (hash_bytes q.hash) (digits 8 q.round.0) past)) (hash-length q) (twos-length ps)
       (qc-places-at ps (front ++ (digits 1 1 ++ digits 2 (count s))) (three-more front (count s) (hash-length q)) (places-small s.0)))
 
   -- a QC that a quorum of members with stake backs is accepted, with its signers
@@ -285,7 +285,7 @@ module _ (m : List ℕ) where
   quorate-tc round s highs k =
       let ps = places_of s.0 in
       rw (tc-part, count_ones m s k)
-      (accepted-bytes tc_form m s k (digits 8 round) (bytes_of (entries ps highs)) refl (length_digits 8 round) (entries-length ps highs)
+      (accepted-bytes 8 10 m s k (digits 8 round) (bytes_of (entries ps highs)) refl (length_digits 8 round) (entries-length ps highs)
       (tc-places-at highs ps (digits 8 round ++ (digits 1 1 ++ digits 2 (count s))) (three-more (digits 8 round) (count s) (length_digits 8 round)) (places-small s.0)))
 
   -- ---- inside a block or a timeout

@@ -27,7 +27,7 @@ use Rattle.certificates.specs.Numbers.{round_max, zero_hash, same_hash}
 use Rattle.certificates.specs.Leader.{leader_of}
 use Rattle.certificates.specs.Signers as signed
 use Rattle.certificates.specs.Signers.{member}
-use Rattle.certificates.specs.Messages.{Form, qc_form, tc_form, is_genesis, verdict_in, places_in, check_part, tc_check, equals_genesis, embedded_check, author_check}
+use Rattle.certificates.specs.Messages.{qc_form, tc_form, is_genesis, verdict_in, places_in, check_part, tc_check, equals_genesis, embedded_check, author_check}
 use Rattle.certificates.specs.Error.{stale, qc_requires_quorum, tc_requires_quorum, round_too_high, number_of, author_number}
 use Rattle.certificates.proofs.Check.{Known}
 use Rattle.certificates.proofs.ErrorLaws.{number-accepted, number-valid}
@@ -41,7 +41,7 @@ use Rattle.trace.proofs.PartLaws.{qc-part-hash, qc-part-round, tc-part-round}
 use Rattle.trace.proofs.FieldLaws.{timeout-qc-hash, timeout-qc-round, block-qc-hash, block-qc-round}
 use Rattle.outputs.specs.Records.{Rec, vote, timeout, clean_mempool, timer_reset}
 use Rattle.synchronizer.specs.declared.table.Slot.{Slot}
-use Rattle.synchronizer.specs.declared.settle.Work.{Work}
+use Rattle.synchronizer.specs.declared.settle.Arrival.{Arrival}
 use Rattle.synchronizer.specs.Settle.{Settlement, is_two_chain, clean_of, commit_if, commit_rec, linked_of}
 use Rattle.synchronizer.specs.Kept.{Keeps}
 use Rattle.synchronizer.proofs.KeptLaws.{settled-keeps}
@@ -56,7 +56,7 @@ use Rattle.handlers.specs.Timeouts.{timeout_check, timeout_taken, timeout_with, 
 use Rattle.handlers.specs.Proposals.{qc_found, proposal_check, advanced_tc, taken, by_payload, proposal_of}
 use Rattle.handlers.proofs.HandlerLaws.{first-both}
 use Rattle.handlers.proofs.ProposalTheorems.{checks-passed, proposal-takes, proposal-refused}
-use Rattle.replica.specs.Blocks.{work_for, settled_for, settled_step, after_settled, processed, going_on}
+use Rattle.replica.specs.Blocks.{arrival_for, settled_for, settled_step, after_settled, processed, going_on}
 use Rattle.runs.specs.Runs.{Written}
 use Rattle.runs.proofs.Lists.{written_behind}
 use Rattle.runs.proofs.Tallied.{Quorate}
@@ -82,7 +82,7 @@ mine-behind g own xs k = record { votes = λ to n h w. k.votes to n h (written_b
 
 -- ---- certificates that were accepted
 
-pub accepted-quorate : (f : Form) (m part : List ℕ) (s : Signers) → check_part f m (quorum_of m) part ≡ Ok s → Quorate m s
+pub accepted-quorate : (f : _) (m part : List ℕ) (s : Signers) → check_part f m (quorum_of m) part ≡ Ok s → Quorate m s
 unfolding signed.signers_of
 accepted-quorate f m part s e =
     let k = certified f m (quorum_of m) part s e in
@@ -165,7 +165,7 @@ module _ (m : List ℕ) (g : Signatures) where
     unfolding linked_of
     writes-linked t b b0 b1 last = every_append (writes-clean b0 b1 b) (writes-commits (commit_if t b0 b1 last).blocks)
 
-    writes-rows : (t : List Slot) (w : Work) {p : Settlement} → Keeps t w p → Every (Writes m g c) p.outs
+    writes-rows : (t : List Slot) (w : Arrival) {p : Settlement} → Keeps t w p → Every (Writes m g c) p.outs
     writes-rows t w (inl e) = rw e (more (record { sends = tt; makes = tt }) none)
     writes-rows t w (inr (inl e)) = rw e none
     writes-rows t w (inr (inr (inl e))) = rw e none
@@ -297,8 +297,8 @@ module _ (m : List ℕ) (g : Signatures) where
       pub good-processed : {s : State} → Kept m g s → (t : List Slot) (b : Block) → Mine g own (processed m own t b s).left.outs → Good m g (processed m own t b s).left
       unfolding processed after_settled settled_for
       good-processed {s} k t b mine =
-          let w = work_for b s.core.last_committed_round 0 in
-          cases (settled_for s t b) (λ c. writes-rows c t w (settled-keeps t w refl)) (eqb (settled_for s t b).answer 0) mine
+          let w = arrival_for b s.core.last_committed_round 0 in
+          cases (settled_for s t b) (λ c. writes-rows c t w (settled-keeps t w)) (eqb (settled_for s t b).answer 0) mine
         where
           settles : (p : Settlement) → ((c : Core) → Every (Writes m g c) p.outs) → Begins m g (settled_step s p)
           settles p e = record { state = kept-core m g k (with_committed s.core p.last) k.high k.below k.voted; outs = e }

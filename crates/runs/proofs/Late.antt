@@ -15,7 +15,7 @@ use Rattle.certificates.specs.Signers.{member}
 use Rattle.certificates.specs.Error.{wait_parent, table_full, ancestor_absent, round_not_below}
 use Rattle.trace.specs.declared.events.Block.{Block}
 use Rattle.synchronizer.specs.declared.table.Slot.{Slot}
-use Rattle.synchronizer.specs.declared.settle.Work.{Work}
+use Rattle.synchronizer.specs.declared.settle.Arrival.{Arrival}
 use Rattle.synchronizer.specs.Settle.{Settlement}
 use Rattle.synchronizer.specs.Kept.{waiting, no_place, no_b0, stopped_by, Keeps}
 use Rattle.synchronizer.proofs.KeptLaws.{settled-keeps}
@@ -23,16 +23,16 @@ use Rattle.moves.specs.State.{State}
 use Rattle.moves.specs.Outcome.{Outcome, done, after}
 use Rattle.handlers.specs.Votes.{voting}
 use Rattle.handlers.proofs.VoteTheorems.{Votes, voting-votes}
-use Rattle.replica.specs.Blocks.{work_for, settled_for, settled_step, after_settled, processed, processed_table}
+use Rattle.replica.specs.Blocks.{arrival_for, settled_for, settled_step, after_settled, processed, processed_table}
 
 -- what a block leaves at the table is a row
-pub settled-rows : (t : List Slot) (b : Block) (s : State) → Keeps t (work_for b s.core.last_committed_round 0) (settled_for s t b)
+pub settled-rows : (t : List Slot) (b : Block) (s : State) → Keeps t (arrival_for b s.core.last_committed_round 0) (settled_for s t b)
 unfolding settled_for
-settled-rows t b s = settled-keeps t (work_for b s.core.last_committed_round 0) refl
+settled-rows t b s = settled-keeps t (arrival_for b s.core.last_committed_round 0)
 
 module _ (m : List ℕ) (own : ℕ) (t : List Slot) (b : Block) (s : State) where
-  abbrev w : Work
-  w = work_for b s.core.last_committed_round 0
+  abbrev w : Arrival
+  w = arrival_for b s.core.last_committed_round 0
 
   abbrev outcome : Outcome
   outcome = processed m own t b s

@@ -21,7 +21,7 @@ use Rattle.outputs.specs.Records.{vote, timeout}
 use Rattle.aggregator.specs.Tally.{vote_width, timeout_width}
 use Rattle.aggregator.specs.Tallies.{vote_tallies, timeout_tallies, Light}
 use Rattle.synchronizer.specs.declared.table.Slot.{Slot}
-use Rattle.synchronizer.specs.Table.{stored, ancestors_of}
+use Rattle.synchronizer.specs.Table.{stored, b0_of, b1_of, ancestors_of, found_number}
 use Rattle.synchronizer.specs.Walk.{delivers, walk_of}
 use Rattle.synchronizer.specs.Settle.{commit_rec}
 use Rattle.moves.specs.declared.state.Core.{Core}
@@ -73,11 +73,11 @@ pub data Signs (b : Block) (q : ℕ) (c : Core) (a : Step) : Type 0 where
 
 -- the block's parent b1 and grandparent b0 were in the table, in consecutive rounds, and b0 is delivered with the walk under it
 pub record Commits (b : Slot) (t t' : List Slot) (low : ℕ) (blocks : List Slot) (high : ℕ) : Type 0 where
-  pub found : (ancestors_of t b).answer ≡ 0
-  pub next : (ancestors_of t b).b0.round.0 + 1 ≡ (ancestors_of t b).b1.round.0
-  pub newer : low < (ancestors_of t b).b0.round.0
-  pub walk : walk_of t' (ancestors_of t b).b0 low ≡ delivers blocks
-  pub last : high ≡ (ancestors_of t b).b0.round.0
+  pub found : found_number (ancestors_of t b) ≡ 0
+  pub next : (b0_of t b).round.0 + 1 ≡ (b1_of t b).round.0
+  pub newer : low < (b0_of t b).round.0
+  pub walk : walk_of t' (b0_of t b) low ≡ delivers blocks
+  pub last : high ≡ (b0_of t b).round.0
 
 pub data Deliveries (b : Slot) (t t' : List Slot) (low : ℕ) (blocks : List Slot) (high : ℕ) : Type 0 where
   none : blocks ≡ [] → high ≡ low → Deliveries b t t' low blocks high
@@ -90,7 +90,7 @@ pub record Delivers (b : Slot) (t t' : List Slot) (low : ℕ) (a : Step) : Type 
 
 -- a block is stored only where its parent and its grandparent are
 abbrev pub Stores : Slot → List Slot → List Slot → Type 0
-Stores b t t' = (t' ≡ t) ⊎ ((t' ≡ stored t b) × ((ancestors_of t b).answer ≡ 0))
+Stores b t t' = (t' ≡ t) ⊎ ((t' ≡ stored t b) × (found_number (ancestors_of t b) ≡ 0))
 
 pub record Lawful (total : ℕ) (b : Block) (q : ℕ) (t t' : List Slot) (s : State) (a : Step) : Type 0 where
   pub stays : Stays total s a.state

@@ -30,10 +30,11 @@ use Rattle.trace.specs.Form.{form_of}
 use Rattle.trace.specs.Fields.{block_of}
 use Rattle.outputs.specs.Records.{Rec, vote, timeout, commit}
 use Rattle.synchronizer.specs.declared.table.Slot.{Slot}
-use Rattle.synchronizer.specs.Table.{ancestors_of}
+use Rattle.synchronizer.specs.Table.{b0_of}
 use Rattle.synchronizer.specs.Walk.{chain_of}
+use Rattle.synchronizer.proofs.TableLaws.{ancestors-both}
 use Rattle.synchronizer.proofs.WalkLaws.{commit-chain}
-use Rattle.synchronizer.proofs.Lookups.{Has, stored-has, Closed, closed-stored, ancestors-both}
+use Rattle.synchronizer.proofs.Lookups.{Has, stored-has, Closed, closed-stored}
 use Rattle.moves.specs.declared.state.Core.{Core}
 use Rattle.moves.specs.Outcome.{Step}
 use Rattle.handlers.proofs.VoteTheorems.{ExtendsTC, extends-rule}
@@ -76,11 +77,11 @@ module _ {b : Block} {q : ℕ} {c : Core} {a : Step} where
   signed-timeout {u} {h} (expiry e v) w = let same : timeout u h ≡ timeout c.round.0 c.high_qc = written_one (rw e at w) in (cc, cc)
 
 -- what is delivered is the chain of the table from the grandparent of the event's block
-pub deliveries-chain : {b : Slot} {t t' blocks : List Slot} {low high : ℕ} → Deliveries b t t' low blocks high → blocks ≡ chain_of (length blocks) t' (ancestors_of t b).b0
+pub deliveries-chain : {b : Slot} {t t' blocks : List Slot} {low high : ℕ} → Deliveries b t t' low blocks high → blocks ≡ chain_of (length blocks) t' (b0_of t b)
 unfolding chain_of
 deliveries-chain (none e f) = rw e
 deliveries-chain {b} {t} {t'} {blocks} {low} (some k) =
-    rw (commit-of (ancestors_of t b).b0 t' low blocks k.newer k.walk) at (commit-chain t' (ancestors_of t b).b0 low).0
+    rw (commit-of (b0_of t b) t' low blocks k.newer k.walk) at (commit-chain t' (b0_of t b) low).0
 
 -- ---- one event
 

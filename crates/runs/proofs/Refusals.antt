@@ -25,7 +25,7 @@ use Rattle.trace.specs.Fields.{vote_of, timeout_of, block_of}
 use Rattle.certificates.specs.Numbers.{round_max}
 use Rattle.trace.specs.Layout.{timeout_qc, tc_body, qc_part, tc_part, tc_round, payload_of}
 use Rattle.synchronizer.specs.declared.table.Slot.{Slot}
-use Rattle.synchronizer.specs.declared.settle.Work.{Work}
+use Rattle.synchronizer.specs.declared.settle.Arrival.{Arrival}
 use Rattle.synchronizer.specs.Settle.{Settlement}
 use Rattle.synchronizer.specs.Kept.{waiting, no_place, no_b0, stopped_by, Keeps}
 use Rattle.moves.specs.State.{State}
@@ -36,7 +36,7 @@ use Rattle.handlers.specs.Sound.{first, signers_of}
 use Rattle.handlers.specs.Votes.{vote_check, handled_vote, voting}
 use Rattle.handlers.specs.Timeouts.{timeout_check, timeout_taken, timeout_with, handled_timeout, tc_taken, stale_if, tc_with, handled_tc, ticked, own_timeout, handled_tick}
 use Rattle.handlers.specs.Proposals.{qc_found, proposal_check, taken, by_payload, payload_number, proposal_with, proposal_of}
-use Rattle.replica.specs.Blocks.{work_for, settled_for, settled_step, after_settled, processed, processed_table, going_on, going_on_table}
+use Rattle.replica.specs.Blocks.{arrival_for, settled_for, settled_step, after_settled, processed, processed_table, going_on, going_on_table}
 use Rattle.replica.specs.Step.{World, Result, refused_in, in_world, begun, begun_by, committee, handled, started, sized_in, on_start, on_other, on_kind, stepped}
 use Rattle.replica.specs.Started.{roomy}
 use Rattle.runs.specs.Runs.{Event, step_on}
@@ -119,7 +119,7 @@ fair-tick m own s = cases (ltb round_max s.core.round.0)
 of_row : (p q : Settlement) → p ≡ q → Keeping q.answer → Keeping p.answer
 of_row p q e h = rw e h
 
-row-keeping : (t : List Slot) (w : Work) (p : Settlement) → Keeps t w p → Keeping p.answer
+row-keeping : (t : List Slot) (w : Arrival) (p : Settlement) → Keeps t w p → Keeping p.answer
 unfolding may_keep member
 row-keeping t w p (inl e) = of_row p (waiting t w) e refl
 row-keeping t w p (inr (inl e)) = of_row p (no_place t w) e refl
@@ -129,7 +129,7 @@ row-keeping t w p (inr (inr (inr (inr (inl e))))) = of_row p (stopped_by round_n
 row-keeping t w p (inr (inr (inr (inr (inr e))))) = rw e.1
 
 settled-keeping : (s : State) (t : List Slot) (b : Block) → Keeping (settled_for s t b).answer
-settled-keeping s t b = row-keeping t (work_for b s.core.last_committed_round 0) (settled_for s t b) (settled-rows t b s)
+settled-keeping s t b = row-keeping t (arrival_for b s.core.last_committed_round 0) (settled_for s t b) (settled-rows t b s)
 
 processed-keeping : (m : List ℕ) (own : ℕ) (t : List Slot) (b : Block) (s : State) → Keeping (processed m own t b s).answer
 unfolding processed after_settled
