@@ -5,8 +5,8 @@ import pathlib
 import re
 
 ROOT = pathlib.Path(__file__).resolve().parent.parent
-FUNCTION = re.compile(r'(?:pub(?:\(crate\))? )?(?:extern "C" )?fn (\w+)')
-PUBLIC = re.compile(r'^pub (?:extern "C" )?fn (\w+)', re.M)
+FUNCTION = re.compile(r'(?:    )?(?:pub(?:\(crate\))? )?(?:extern "C" )?fn (\w+)')
+PUBLIC = re.compile(r'^(?:    )?pub (?:extern "C" )?fn (\w+)', re.M)
 OF_PROOF = re.compile(r'\S*?proofs/((?:[\w+]+/)+)(Answers|Invariants|Proof)\.antt:(\d+):\d+: error')
 OF_LAW = re.compile(r'\S*?proofs/(\S+)\.antt:\d+:\d+: error: `([^`]+)`')
 OF_SOURCE = re.compile(r'note: \S*?src/(\w+)\.rt:(\d+):\d+: it is not proved')
@@ -66,7 +66,8 @@ def pairs(crate, edit):
 
 @functools.lru_cache(maxsize=None)
 def functions(crate, source):
-    """The functions of a file in its order, each with the number of its first line, comments and attributes included."""
+    """The functions of a file in its order, each with the number of its first line, comments and attributes included. A method
+    is one too, by its own name."""
     lines, found = (ROOT / 'crates' / crate / source).read_text().splitlines(), []
     for number, line in enumerate(lines, 1):
         match = FUNCTION.match(line)
@@ -132,6 +133,11 @@ def messages(said):
     return [it for it in out if not UNFIT.search(it)]
 
 
+def module_of(crate, name):
+    """A name, where it is that of a module; a function's may also be of a type, or its own."""
+    return name if (ROOT / 'crates' / crate / 'src' / f'{name}.rt').is_file() else None
+
+
 def refused(crate, said):
     """The functions of which a fact of their own does not hold, by what a check wrote."""
     top, out = 'lib' if (ROOT / 'crates' / crate / 'src' / 'lib.rt').is_file() else 'main', set()
@@ -139,10 +145,10 @@ def refused(crate, said):
         match = OF_PROOF.match(it)
         if match and (match.group(2) != 'Proof' or int(match.group(3)) < closing_line(crate, match.group(1))):
             parts = match.group(1).strip('/').split('/')
-            out.add((parts[-2] if len(parts) > 1 else top, parts[-1]))
+            out.add((module_of(crate, parts[0]) or top, parts[-1]))
         match = NO_PROOF.match(it)
         if match:
-            out.add((match.group(1).split('::')[-2] if match.group(1) else top, match.group(2)))
+            out.add((module_of(crate, match.group(1).partition('::')[0]) or top, match.group(2)))
         match = OF_SOURCE.match(it)
         if match:
             out.add(function_at(crate, f'src/{match.group(1)}.rt', int(match.group(2))))
