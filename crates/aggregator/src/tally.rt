@@ -8,7 +8,9 @@ ghost use Rattle.aggregator.specs.Tallies.{vote_tallies, timeout_tallies};
 ghost use Rattle.aggregator.specs.Keys.{Keyed, vote-keyed, timeout-keyed};
 ghost use Rattle.std.proofs.Common.{arith};
 
-use crate::tallies::{AddError, Added, Quorum, TIMEOUT_TALLIES, TIMEOUT_WIDTH, VOTE_TALLIES, VOTE_WIDTH, clear};
+use crate::tallies::{
+    AddError, Added, Quorum, TIMEOUT_TALLIES, TIMEOUT_WIDTH, VOTE_TALLIES, VOTE_WIDTH, clear,
+};
 use certificates::config::MEMBERS_MAX;
 use certificates::numbers::{Hash, Place, Round, Signers, Stake};
 
