@@ -5,13 +5,11 @@
 --     votes, commits     votes and commits
 --     keeps              all of it
 use Prim.Native.Nat.{ℕ, zero, suc, ◌≤◌, ◌<◌}
-use mathlib.Core.Bool.{Bool, true, false, cond}
+use mathlib.Core.Bool.{false}
 use mathlib.Core.List.{List, [], ◌∷◌, ◌++◌, map, append_assoc}
 use mathlib.Core.Logic.{◌⊎◌, inl, inr, ⊎_elim}
 use mathlib.Core.Path.{◌≡◌, refl, sym, ap, ◌∙◌}
 use native.Mathlib.Omega.{arith}
-use borrow.Author.Tests.{eqb-false, ne_eqb}
-use lib.Dec.{eqb}
 use lib.ListN.{length, length-append}
 use Rattle.std.specs.Prelude.{Option, None, Some}
 use Rattle.certificates.specs.declared.numbers.Hash.{Hash}

@@ -26,7 +26,7 @@ use Rattle.trace.specs.declared.events.BlockTc.{BlockTc}
 use Rattle.moves.specs.declared.state.Core.{Core}
 use Rattle.moves.specs.State.{State, whole}
 use Rattle.moves.specs.Outcome.{Step, quiet, done, refused, Did}
-use Rattle.moves.specs.Moves.{advanced, taken_qc}
+use Rattle.moves.specs.Moves.{taken_qc}
 use Rattle.moves.specs.Tallied.{qc_of}
 use Rattle.moves.proofs.MoveLaws.{Keeps, keeps-none, keeps_then, advanced-keeps, taken-keeps}
 use Rattle.aggregator.specs.Tallies.{votes_length, timeouts_length}

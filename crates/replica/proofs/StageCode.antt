@@ -16,7 +16,7 @@ use Rattle.certificates.specs.Config.{quorum_from, quorum_of}
 use Rattle.certificates.specs.Start.{member_count, own_place, setup_at, loaded_stakes}
 use Rattle.certificates.proofs.ConfigLaws.{quorum-total}
 use Rattle.certificates.proofs.StartLaws.{started as start_of_lem, length-loaded}
-use Rattle.certificates.specs.Error.{code, number, bad_record, bad_setup, no_room, not_started, started_again}
+use Rattle.certificates.specs.Error.{code, number, no_room}
 use Rattle.certificates.specs.declared.numbers.Place.{Place}
 use Rattle.certificates.specs.declared.numbers.Stake.{Stake}
 use Rattle.trace.specs.declared.events.Kind.{Kind}

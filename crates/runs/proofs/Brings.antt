@@ -18,7 +18,7 @@ use Rattle.certificates.specs.declared.numbers.Stake.{Stake}
 use Rattle.certificates.specs.Config.{quorum_from, quorum_of}
 use Rattle.certificates.specs.Messages.{embedded_check, tc_check}
 use Rattle.certificates.specs.Numbers.{round_max}
-use Rattle.certificates.specs.Error.{round_too_high, qc_requires_quorum, tc_requires_quorum, number_of}
+use Rattle.certificates.specs.Error.{round_too_high, qc_requires_quorum, tc_requires_quorum}
 use Rattle.certificates.proofs.ErrorLaws.{number-accepted}
 use Rattle.trace.specs.declared.events.Kind.{Kind}
 use Rattle.trace.specs.declared.events.Block.{Block}

@@ -49,7 +49,7 @@ use Rattle.synchronizer.proofs.KeptLaws.{settled-keeps}
 use Rattle.moves.specs.declared.state.Core.{Core}
 use Rattle.moves.specs.State.{State, with_core, with_voted, with_committed}
 use Rattle.moves.specs.Outcome.{Outcome, quiet, wrote, done, after, refused, checked}
-use Rattle.moves.specs.Moves.{advanced, make_with_of}
+use Rattle.moves.specs.Moves.{make_with_of}
 use Rattle.moves.specs.Tallied.{qc_of, vote_tallied, timeout_tallied}
 use Rattle.handlers.specs.Sound.{first as first_of, signers_of}
 use Rattle.handlers.specs.Votes.{vote_check, handled_vote, may_vote, own_vote, voted, voting}
