@@ -5,20 +5,19 @@
 --     votes, commits     votes and commits
 --     keeps              all of it
 use Prim.Native.Nat.{ℕ, zero, suc, ◌≤◌, ◌<◌}
-use mathlib.Core.Bool.{Bool, true, false, cond}
+use mathlib.Core.Bool.{false}
 use mathlib.Core.List.{List, [], ◌∷◌, ◌++◌, map, append_assoc}
 use mathlib.Core.Logic.{◌⊎◌, inl, inr, ⊎_elim}
 use mathlib.Core.Path.{◌≡◌, refl, sym, ap, ◌∙◌}
 use native.Mathlib.Omega.{arith}
-use borrow.Author.Tests.{eqb-false, ne_eqb}
-use lib.Dec.{eqb}
 use lib.ListN.{length, length-append}
-use Rattle.std.specs.Prelude.{None, Some}
+use Rattle.std.specs.Prelude.{Option, None, Some}
 use Rattle.certificates.specs.declared.numbers.Hash.{Hash}
 use Rattle.certificates.specs.declared.messages.QC.{QC}
 use Rattle.certificates.specs.Num.{num_at, hash_at}
 use Rattle.certificates.specs.Messages.{is_genesis}
 use Rattle.trace.specs.declared.events.Kind.{Kind}
+use Rattle.trace.specs.declared.events.BlockTc.{BlockTc}
 use Rattle.trace.specs.Fields.{block_of}
 use Rattle.trace.specs.Layout.{block_qc, qc_part, tc_part, highs_of, largest_high}
 use Rattle.trace.proofs.PartLaws.{qc-part-hash, qc-part-round, tc-part-round, highs-le}
@@ -49,7 +48,7 @@ use Rattle.runs.proofs.Rounds.{course-starts}
 use Rattle.runs.proofs.Time.{at-past, ev-past, idle-bad, Split, split, outs-find}
 use Rattle.runs.proofs.CourseLives.{world_at, stage_at, event_at, total, result_at, block_in, world-first, world-next, core-next, started-at, ordered_at, deliveries_at, before, Casts, life_of, careful, round-rises, vote-in-round, high-rises, timeout-high}
 use Rattle.runs.proofs.Parties.{party_of}
-use Rattle.cabinets.specs.Contents.{Ending, without, ends, Content, ending_of, content_of, MadeFrom}
+use Rattle.cabinets.specs.Contents.{Ending, without, ends, Content, ending, ending_of, content_of, MadeFrom}
 use Rattle.cabinets.specs.Ledgers.{Held, Ordered, Cabinets}
 use Rattle.cabinets.proofs.Events.{slot_of, Trace, Offered, Voting, Committing, TrueQc, TrueTc, Keeps}
 use Rattle.cabinets.proofs.TrueCourses.{voting, signing, certified, ended, committee-at, moment, good-at, good_start, sure-at, mine-at}
@@ -214,30 +213,29 @@ module _ (M : Members) (C : Cabinets M) (p : ℕ) (o : Sits M p) where
       certified M b.qc_hash b.qc_round.0 (rw (h, n) at x)
 
   -- the result of its TC is true
-  sure-tc : (i : ℕ) → Passed (world_at r i) (event_at r i) → ((block_in r i).tc ≡ 0 → ⊥) → SureTC (signing M) (tc_part (event_at r i).bytes (block_in r i).tc)
-  sure-tc i k ne v q n =
+  sure-tc : (i : ℕ) → Passed (world_at r i) (event_at r i) → {t : BlockTc} → (block_in r i).tc ≡ Some t → SureTC (signing M) (tc_part (event_at r i).bytes t.at)
+  sure-tc i k {t} ne v q n =
       ⊎_elim
-      (λ (s : Split (origin r) r.stages i). λ l. (C.results p o).block-tc (moment M p o i s) k.kind ne v q l n)
+      (λ (s : Split (origin r) r.stages i). λ l. (C.results p o).block-tc (moment M p o i s) k.kind t ne v q l n)
       (λ z. absurd (let x : Some Kind.Propose ≡ None = sym k.kind ∙ idle-bad (stage_at r i) z in let y : ◌≡◌ {A = ℕ} 0 1 = cc in omega arith))
       (split (origin r) r.stages i)
 
   tc-true : (i : ℕ) → Passed (world_at r i) (event_at r i) → TrueTc (party_of M) (ending_of (block_in r i))
-  tc-true i k = cases (eqb (block_in r i).tc 0) refl
+  tc-true i k = cases (block_in r i).tc refl
     where
-      some : ((block_in r i).tc ≡ 0 → ⊥) → Ended (party_of M) (block_in r i).tc_round.0 (block_in r i).tc_high.0
-      some ne =
-          let b = block_in r i in
+      some : {t : BlockTc} → (block_in r i).tc ≡ Some t → Ended (party_of M) t.round.0 t.high.0
+      some {t} ne =
           let bytes = (event_at r i).bytes in
-          let part = tc_part bytes b.tc in
-          let n : num_at 8 part 0 ≡ b.tc_round.0 = tc-part-round bytes b.tc ∙ sym (block-tc-round bytes ne) in
-          let most : b.tc_high.0 ≡ largest_high part = block-tc-high bytes ne in
+          let part = tc_part bytes t.at in
+          let n : num_at 8 part 0 ≡ t.round.0 = tc-part-round bytes t.at ∙ sym (block-tc-round bytes ne) in
+          let most : t.high.0 ≡ largest_high part = block-tc-high bytes ne in
           let a = rw (committee-at M p o i) at (passed-tc (world_at r i) (event_at r i) (total r) (started-at r i) k ne) in
           let x : Closes M.stakes (signing M) (num_at 8 part 0) a.0 (highs_of part) = tc-closes M.stakes (signing M) part a.0 (sure-tc i k ne) a.1 in
-          ended M b.tc_round.0 b.tc_high.0 a.0 (highs_of part) (rw n at x) (λ j c. omega (arith, highs-le part j, most))
+          ended M t.round.0 t.high.0 a.0 (highs_of part) (rw n at x) (λ j c. omega (arith, highs-le part j, most))
 
-      cases : (u : Bool) → eqb (block_in r i).tc 0 ≡ u → TrueTc (party_of M) (cond u without (ends (block_in r i).tc_round.0 (block_in r i).tc_high.0))
-      cases true e = tt
-      cases false e = some (eqb-false _ 0 e)
+      cases : (o : Option BlockTc) → (block_in r i).tc ≡ o → TrueTc (party_of M) (ending o)
+      cases None e = tt
+      cases (Some t) e = some e
 
   offered-high : (i : ℕ) (c : Content) → Offered (trace_of r) i c → c.qc_round ≤ high_of (before r (suc i))
   offered-high zero c (inl g) = absurd g
@@ -288,7 +286,7 @@ module _ (M : Members) (C : Cabinets M) (p : ℕ) (o : Sits M p) where
             took = λ k. let u : took_by (Some Kind.Propose) b ≤ y.0 = rw k.0.kind at y.4 in u;
             rule = ⊎_elim
                 (λ u. inl (omega (arith, x.1)))
-                (λ (u : ExtendsTC b). inr (b.tc_round.0, b.tc_high.0, rw (ne_eqb _ 0 u.some) refl, omega (arith, x.1, u.next), u.high))
+                (λ (u : ExtendsTC b). inr (u.tc.round.0, u.tc.high.0, rw u.some refl, omega (arith, x.1, u.next), u.high))
                 (laws.vote-rule w e t s c.1);
           }
 

@@ -44,7 +44,7 @@ module _ (M : Members) (p : ℕ) (o : Sits M p) (true-results : AllTruthful M (M
             timeout-qc = λ f g v q n l. k.timeout-qc m f g v q l n;
             tc = λ f v q n l. true-results.tc m f v q l n;
             block-qc = λ f g v q n l. k.block-qc m f g v q l n;
-            block-tc = λ f t v q n l. k.block-tc m f t v q l n;
+            block-tc = λ f t z v q n l. k.block-tc m f t z v q l n;
           }
 
   mine : (i : ℕ) → Mine (signing M) p (result_at r i).outs

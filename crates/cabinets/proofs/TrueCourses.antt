@@ -123,7 +123,7 @@ module _ (M : Members) where
               timeout-qc = λ f g v q n l. k.timeout-qc m f g v q l n;
               tc = λ f v q n. tt;
               block-qc = λ f g v q n l. k.block-qc m f g v q l n;
-              block-tc = λ f t v q n. tt;
+              block-tc = λ f t z v q n. tt;
             }
 
     pub mine-at : (i : ℕ) → Mine voting p (result_at r i).outs

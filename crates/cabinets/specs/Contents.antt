@@ -1,12 +1,13 @@
 -- What a block says: all of it that votes and commits look at, and none of how it lies in bytes.
 --     Ending              a block's TC, if it has one: its round and its largest high round
 --     Content             digest, round, QC and TC of a block
---     ending_of, content_of b   the TC and the content of a block that an event carries
+--     ending tc, ending_of b, content_of b   the TC and the content of a block that an event carries
 --     MadeFrom a c        the content c is that of a block made from the record a, a MAKE (Builds)
-use Rattle.std.specs.Prelude.{ℕ, cond, ◌≡◌, eqb}
+use Rattle.std.specs.Prelude.{ℕ, ◌≡◌, Option, None, Some}
 use Rattle.certificates.specs.declared.numbers.Hash.{Hash}
 use Rattle.certificates.specs.declared.messages.QC.{QC}
 use Rattle.trace.specs.declared.events.Block.{Block}
+use Rattle.trace.specs.declared.events.BlockTc.{BlockTc}
 use Rattle.outputs.specs.Records.{Rec, vote, timeout, tc, make, make_with, commit, sync, clean_proposer, clean_mempool, timer_reset, answer}
 
 pub data Ending : Type 0 where
@@ -20,8 +21,12 @@ pub record Content : Type 0 where
   pub qc_round : ℕ
   pub tc : Ending
 
+abbrev pub ending : Option BlockTc → Ending
+ending None = without
+ending (Some t) = ends t.round.0 t.high.0
+
 abbrev pub ending_of : Block → Ending
-ending_of b = cond (eqb b.tc 0) without (ends b.tc_round.0 b.tc_high.0)
+ending_of b = ending b.tc
 
 abbrev pub content_of : Block → Content
 content_of b =

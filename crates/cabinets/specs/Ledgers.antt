@@ -14,6 +14,7 @@ use Rattle.certificates.specs.Num.{num_at}
 use Rattle.certificates.specs.Signers.{member}
 use Rattle.certificates.specs.Messages.{qc_form, tc_form, verdict_in, places_in, is_genesis, equals_genesis}
 use Rattle.trace.specs.declared.events.Kind.{Kind}
+use Rattle.trace.specs.declared.events.BlockTc.{BlockTc}
 use Rattle.trace.specs.Fields.{vote_of}
 use Rattle.trace.specs.Layout.{block_qc, timeout_qc, qc_part, tc_part, highs_of}
 use Rattle.outputs.specs.Records.{Rec}
@@ -43,7 +44,7 @@ module _ (M : Members) where
         v.verdict ≡ 1 → Sits M v.author.0 → Signed M v.author.0 v.hash v.round.0
     pub timeout-qc : (m : Moment c) → kind_at m ≡ Some Kind.Timeout → TrueQC (qc_part (bytes_at m) timeout_qc)
     pub block-qc : (m : Moment c) → kind_at m ≡ Some Kind.Propose → TrueQC (qc_part (bytes_at m) block_qc)
-    pub block-tc : (m : Moment c) → kind_at m ≡ Some Kind.Propose → ((block_at m).tc ≡ 0 → ⊥) → TrueTC (tc_part (bytes_at m) (block_at m).tc)
+    pub block-tc : (m : Moment c) → kind_at m ≡ Some Kind.Propose → (k : BlockTc) → (block_at m).tc ≡ Some k → TrueTC (tc_part (bytes_at m) k.at)
 
 -- ---- "one digest names one block"
 

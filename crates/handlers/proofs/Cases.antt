@@ -4,6 +4,7 @@ use mathlib.Core.Bool.{Bool, true, false}
 use mathlib.Core.List.{List, [], ◌∷◌, map}
 use mathlib.Core.Path.{◌≡◌}
 use Rattle.certificates.specs.Numbers.{zero_hash}
+use Rattle.std.specs.Prelude.{Some}
 use Rattle.trace.specs.declared.events.Block.{Block}
 use Rattle.trace.specs.Layout.{largest}
 use Rattle.trace.proofs.Bounds.{largest-one, largest-cons}
@@ -30,9 +31,7 @@ block_on qc =
       verdict = 1;
       qc_hash = zero_hash;
       qc_round = record { 0 = qc };
-      tc = 89;
-      tc_round = record { 0 = 4 };
-      tc_high = record { 0 = largest (1 ∷ 2 ∷ 3 ∷ []) };
+      tc = Some (record { at = 89; round = record { 0 = 4 }; high = record { 0 = largest (1 ∷ 2 ∷ 3 ∷ []) } });
     }
 
 pub record Reading : Type 0 where

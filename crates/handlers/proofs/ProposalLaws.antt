@@ -10,7 +10,7 @@ use lib.Dec.{eqb}
 use mathlib.Core.List.{List}
 use mathlib.Core.Path.{◌≡◌, refl, sym, ◌∙◌}
 use borrow.Author.Tests.{eq-eqb, ne_eqb}
-use Rattle.std.specs.Prelude.{Result, Ok, Err, is_ok}
+use Rattle.std.specs.Prelude.{Result, Ok, Err, is_ok, None, Some}
 use Rattle.certificates.specs.declared.numbers.Signers.{Signers}
 use Rattle.certificates.specs.declared.numbers.Stake.{Stake}
 use Rattle.certificates.specs.declared.error.AuthorError.{AuthorError}
@@ -22,6 +22,7 @@ use Rattle.certificates.specs.declared.error.Refusal.{Refusal}
 use Rattle.certificates.specs.declared.error.Refusal.TheVariants as refusal
 use Rattle.certificates.specs.Error.{code, number, wait_payload, wrong_leader, qc_requires_quorum, tc_requires_quorum, invalid_payload, number_of, author_number}
 use Rattle.trace.specs.declared.events.Block.{Block}
+use Rattle.trace.specs.declared.events.BlockTc.{BlockTc}
 use Rattle.trace.specs.Layout.{block_qc, qc_part, tc_part}
 use Rattle.moves.specs.declared.state.Core.{Core}
 use Rattle.moves.specs.declared.state.Moved.{Moved}
@@ -48,14 +49,14 @@ module _ (m : List ℕ) (b : Block) {l : ℕ} (e : l ≡ leader_of m b.round.0) 
   leader-author h f g = rw (← e, eq-eqb _ _ h, ← f) g
 
 module _ (m : List ℕ) (b : Block) (input : List ℕ) where
-  pub tc-none : b.tc ≡ 0 → 0 ≡ tc_number m b input
+  pub tc-none : b.tc ≡ None → 0 ≡ tc_number m b input
   unfolding tc_number
-  tc-none h = rw (eq-eqb _ _ h)
+  tc-none h = rw h
 
-  module _ {need : ℕ} {part : List ℕ} {c : Result Signers CertificateError} (h : b.tc ≡ 0 → ⊥) (q : need ≡ quorum_of m) (p : part ≡ tc_part input b.tc) (e : c ≡ tc_check m need part) where
+  module _ {need : ℕ} {part : List ℕ} {c : Result Signers CertificateError} {t : BlockTc} (h : b.tc ≡ Some t) (q : need ≡ quorum_of m) (p : part ≡ tc_part input t.at) (e : c ≡ tc_check m need part) where
     pub tc-checked : number_of c tc_requires_quorum ≡ tc_number m b input
     unfolding tc_number
-    tc-checked = rw (ne_eqb _ _ h, ← q, ← p, ← e)
+    tc-checked = rw (h, ← q, ← p, ← e)
 
     pub tc-passed : {y : Signers} → c ≡ Ok y → 0 ≡ tc_number m b input
     tc-passed i = sym (found-yes tc_requires_quorum i).0 ∙ tc-checked
@@ -97,14 +98,14 @@ module _ (m : List ℕ) (b : Block) (input : List ℕ) {l : Result Unit Refusal}
 
 module _ (core : Core) (votes timeouts : List ℕ) (b : Block) (signers : Signers) {c : Core} {v t out out' : List ℕ} {at mid : ℕ}
     (p : Did advance_most (taken_qc (whole core votes timeouts) (qc_of b.qc_hash b.qc_round.0 signers)) out at c v t out' mid) where
-  pub take_none : b.tc ≡ 0 → Did taken_most (taken (whole core votes timeouts) b signers) out at c v t out' mid
+  pub take_none : b.tc ≡ None → Did taken_most (taken (whole core votes timeouts) b signers) out at c v t out' mid
   unfolding taken advanced_tc
-  take_none h = did_then {l = advance_most} (advanced_tc b) p (rw (eq-eqb _ _ h) (did-quiet advance_most c v t out' mid))
+  take_none h = did_then {l = advance_most} (advanced_tc b) p (rw h (did-quiet advance_most c v t out' mid))
 
-  pub take-tc : {c' : Core} {v' t' out'' : List ℕ} {end : ℕ} → (b.tc ≡ 0 → ⊥) → Did advance_most (advanced (whole c v t) b.tc_round.0) out' mid c' v' t' out'' end
+  pub take-tc : {c' : Core} {v' t' out'' : List ℕ} {end : ℕ} {k : BlockTc} → b.tc ≡ Some k → Did advance_most (advanced (whole c v t) k.round.0) out' mid c' v' t' out'' end
       → Did taken_most (taken (whole core votes timeouts) b signers) out at c' v' t' out'' end
   unfolding taken advanced_tc
-  take-tc h q = did_then {l = advance_most} (advanced_tc b) p (rw (ne_eqb _ _ h) q)
+  take-tc h q = did_then {l = advance_most} (advanced_tc b) p (rw h q)
 
 -- ---- the payload
 

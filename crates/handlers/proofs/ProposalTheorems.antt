@@ -14,7 +14,7 @@ use native.Mathlib.Omega.{arith}
 use borrow.Author.Tests.{eq-eqb, ne_eqb, eqb-true}
 use lib.Dec.{eqb}
 use lib.ListN.{length}
-use Rattle.std.specs.Prelude.{Result, is_ok}
+use Rattle.std.specs.Prelude.{Result, is_ok, Option, None, Some}
 use Rattle.certificates.specs.declared.numbers.Signers.{Signers}
 use Rattle.certificates.specs.declared.error.CertificateError.{CertificateError}
 use Rattle.certificates.specs.Config.{total_max}
@@ -22,16 +22,17 @@ use Rattle.certificates.specs.Leader.{leader_of}
 use Rattle.certificates.specs.Messages.{author_check}
 use Rattle.certificates.specs.Error.{wait_payload, wrong_leader, qc_requires_quorum, invalid_payload, number_of, author_number}
 use Rattle.trace.specs.declared.events.Block.{Block}
+use Rattle.trace.specs.declared.events.BlockTc.{BlockTc}
 use Rattle.moves.specs.declared.state.Core.{Core}
 use Rattle.moves.specs.State.{State, whole}
 use Rattle.moves.specs.Outcome.{Step, quiet, done, refused, Did}
-use Rattle.moves.specs.Moves.{advanced, taken_qc}
+use Rattle.moves.specs.Moves.{taken_qc}
 use Rattle.moves.specs.Tallied.{qc_of}
 use Rattle.moves.proofs.MoveLaws.{Keeps, keeps-none, keeps_then, advanced-keeps, taken-keeps}
 use Rattle.aggregator.specs.Tallies.{votes_length, timeouts_length}
 use Rattle.handlers.specs.Sound.{Sound, first, signers_of}
 use Rattle.moves.specs.declared.state.Ran.{Ran}
-use Rattle.handlers.specs.Proposals.{leader_check, qc_found, tc_number, proposal_check, advanced_tc, taken, payload_number, by_payload, proposal_with, proposal_of, Proposes}
+use Rattle.handlers.specs.Proposals.{leader_check, qc_found, tc_number, proposal_check, advanced_by, advanced_tc, taken, payload_number, by_payload, proposal_with, proposal_of, Proposes}
 use Rattle.handlers.proofs.HandlerLaws.{first-both, keeps-sound}
 
 -- ---- the checks
@@ -120,11 +121,11 @@ proposes-on m s b input payload p h = rw (proposal-goes-on m s b input payload (
 module _ (total : ℕ) (s : State) (long : length s.votes ≡ votes_length) (wide : length s.timeouts ≡ timeouts_length) (b : Block) where
   pub advanced-tc-keeps : Keeps total s (advanced_tc b s).state
   unfolding advanced_tc
-  advanced-tc-keeps = cases (eqb b.tc 0)
+  advanced-tc-keeps = cases b.tc
     where
-      cases : (t : Bool) → Keeps total s (cond t (quiet s) (advanced s b.tc_round.0)).state
-      cases true = keeps-none total s
-      cases false = advanced-keeps total s long wide b.tc_round.0
+      cases : (k : Option BlockTc) → Keeps total s (advanced_by k s).state
+      cases None = keeps-none total s
+      cases (Some k) = advanced-keeps total s long wide k.round.0
 
 pub certificates-keep : (total : ℕ) (s : State) → length s.votes ≡ votes_length → length s.timeouts ≡ timeouts_length → (b : Block) (signers : Signers)
     → Keeps total s (taken s b signers).state

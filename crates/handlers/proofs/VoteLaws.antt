@@ -12,7 +12,7 @@ use native.Mathlib.Omega.{arith}
 use borrow.Author.Tests.{eq-eqb, ne_eqb, lt-ltb, le-ltb}
 use lib.Dec.{ltb, leb, eqb}
 use lib.ListN.{length}
-use Rattle.std.specs.Prelude.{Result, Ok, Err}
+use Rattle.std.specs.Prelude.{Result, Ok, Err, None, Some}
 use Rattle.certificates.specs.declared.numbers.Stake.{Stake}
 use Rattle.certificates.specs.declared.error.AuthorError.{AuthorError}
 use Rattle.certificates.specs.Config.{stake_of, quorum_of}
@@ -22,6 +22,7 @@ use Rattle.certificates.specs.declared.error.Refusal.{Refusal}
 use Rattle.certificates.specs.Error.{code, number, author_number}
 use Rattle.trace.specs.declared.events.Vote.{Vote}
 use Rattle.trace.specs.declared.events.Block.{Block}
+use Rattle.trace.specs.declared.events.BlockTc.{BlockTc}
 use Rattle.outputs.specs.Put.{Put}
 use Rattle.outputs.specs.Records.{vote, vote_size, enc}
 use Rattle.outputs.proofs.Wrote.{wrote_one}
@@ -76,18 +77,18 @@ module _ (b : Block) where
   extends-qc h = rw (eq-eqb _ _ h)
 
   module _ (n : b.qc_round.0 + 1 ≡ b.round.0 → ⊥) where
-    pub extends-none : b.tc ≡ 0 → false ≡ extends b
+    pub extends-none : b.tc ≡ None → false ≡ extends b
     unfolding extends
-    extends-none h = rw (ne_eqb _ _ n, eq-eqb _ _ h)
+    extends-none h = rw (ne_eqb _ _ n, h)
 
-    module _ (some : b.tc ≡ 0 → ⊥) where
-      pub extends-tc : b.tc_round.0 + 1 ≡ b.round.0 → leb b.tc_high.0 b.qc_round.0 ≡ extends b
+    module _ {t : BlockTc} (some : b.tc ≡ Some t) where
+      pub extends-tc : t.round.0 + 1 ≡ b.round.0 → leb t.high.0 b.qc_round.0 ≡ extends b
       unfolding extends
-      extends-tc h = rw (ne_eqb _ _ n, ne_eqb _ _ some, eq-eqb _ _ h)
+      extends-tc h = rw (ne_eqb _ _ n, some, eq-eqb _ _ h)
 
-      pub extends-other : (b.tc_round.0 + 1 ≡ b.round.0 → ⊥) → false ≡ extends b
+      pub extends-other : (t.round.0 + 1 ≡ b.round.0 → ⊥) → false ≡ extends b
       unfolding extends
-      extends-other h = rw (ne_eqb _ _ n, ne_eqb _ _ some, ne_eqb _ _ h)
+      extends-other h = rw (ne_eqb _ _ n, some, ne_eqb _ _ h)
 
   module _ (c : Core) where
     pub may-new : {t : Bool} → c.last_voted_round.0 < b.round.0 → t ≡ extends b → t ≡ may_vote c b

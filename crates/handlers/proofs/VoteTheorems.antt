@@ -11,12 +11,12 @@ use mathlib.Core.List.{List, [], ◌∷◌}
 use mathlib.Core.Logic.{◌⊎◌, inl, inr}
 use mathlib.Core.Path.{◌≡◌, refl}
 use native.Mathlib.Omega.{arith}
-use borrow.Author.Tests.{eq-eqb, ne_eqb, eqb-true, eqb-false, ltb-true, leb-true}
+use borrow.Author.Tests.{eq-eqb, ne_eqb, eqb-true, ltb-true, leb-true}
 use lib.Dec.{ltb, leb, eqb}
 use lib.ListN.{length}
 use Rattle.aggregator.specs.Tally.{Added}
 use Rattle.aggregator.specs.declared.tallies.AddError.TheVariants.{NoRoom, Used}
-use Rattle.std.specs.Prelude.{Ok, Err, None, Some}
+use Rattle.std.specs.Prelude.{Ok, Err, Option, None, Some}
 use Rattle.certificates.specs.declared.numbers.Hash.{Hash}
 use Rattle.certificates.specs.Config.{stake_of, quorum_of}
 use Rattle.certificates.specs.Leader.{leader_of}
@@ -26,6 +26,7 @@ use Rattle.certificates.specs.Signers.{member}
 use Rattle.certificates.specs.Error.{author_number, unknown_authority, authority_reuse, tallies_full}
 use Rattle.trace.specs.declared.events.Vote.{Vote}
 use Rattle.trace.specs.declared.events.Block.{Block}
+use Rattle.trace.specs.declared.events.BlockTc.{BlockTc}
 use Rattle.outputs.specs.Records.{vote}
 use Rattle.aggregator.specs.Tallies.{votes_length, timeouts_length, vote_added, votes_after}
 use Rattle.moves.specs.declared.state.Core.{Core}
@@ -34,47 +35,47 @@ use Rattle.moves.specs.Outcome.{Outcome, quiet, wrote, done, after, refused}
 use Rattle.moves.specs.Tallied.{after_vote, vote_tallied}
 use Rattle.moves.proofs.MoveLaws.{Keeps, keeps-none}
 use Rattle.moves.proofs.TallyLaws.{vote-tallied-is, vote-tallied-keeps}
-use Rattle.handlers.specs.Votes.{vote_check, handled_vote, extends, may_vote, own_vote, voted, voting}
+use Rattle.handlers.specs.Votes.{vote_check, handled_vote, extends_tc, extends, may_vote, own_vote, voted, voting}
 
 -- ---- the voting rules
 
 -- the TC's part of rule 2: "its TC has tc.round+1 = round and qc.round at least its largest high round"
 pub record ExtendsTC (b : Block) : Type 0 where
-  pub some : b.tc ≡ 0 → ⊥
-  pub next : b.tc_round.0 + 1 ≡ b.round.0
-  pub high : b.tc_high.0 ≤ b.qc_round.0
+  pub tc : BlockTc
+  pub some : b.tc ≡ Some tc
+  pub next : tc.round.0 + 1 ≡ b.round.0
+  pub high : tc.high.0 ≤ b.qc_round.0
 
 module _ (b : Block) where
-  from-extends : (x y z w : Bool) → cond x true (cond y false (cond z w false)) ≡ true → (x ≡ true) ⊎ ((y ≡ false) × (z ≡ true) × (w ≡ true))
-  from-extends true y z w e = inl refl
-  from-extends false true z w e = absurd (let h : ◌≡◌ {A = ℕ} 0 1 = cc in omega arith)
-  from-extends false false true w e = inr (refl, refl, e)
-  from-extends false false false w e = absurd (let h : ◌≡◌ {A = ℕ} 0 1 = cc in omega arith)
+  from-both : (x y : Bool) → cond x y false ≡ true → (x ≡ true) × (y ≡ true)
+  from-both true y e = (refl, e)
+  from-both false y e = absurd (let h : ◌≡◌ {A = ℕ} 0 1 = cc in omega arith)
+
+  from-extends : (x : Bool) (o : Option BlockTc) → b.tc ≡ o → cond x true (extends_tc b o) ≡ true → (x ≡ true) ⊎ ExtendsTC b
+  from-extends true o f e = inl refl
+  from-extends false None f e = absurd (let h : ◌≡◌ {A = ℕ} 0 1 = cc in omega arith)
+  from-extends false (Some t) f e =
+      let h = from-both (eqb (t.round.0 + 1) b.round.0) (leb t.high.0 b.qc_round.0) e in
+      inr (record { tc = t; some = f; next = eqb-true _ _ h.0; high = leb-true _ _ h.1 })
 
   -- rule 2
   pub extends-rule : extends b ≡ true → (b.qc_round.0 + 1 ≡ b.round.0) ⊎ ExtendsTC b
   unfolding extends
-  extends-rule e = cases (from-extends (eqb (b.qc_round.0 + 1) b.round.0) (eqb b.tc 0) (eqb (b.tc_round.0 + 1) b.round.0) (leb b.tc_high.0 b.qc_round.0) e)
+  extends-rule e = cases (from-extends (eqb (b.qc_round.0 + 1) b.round.0) b.tc refl e)
     where
-      cases : (eqb (b.qc_round.0 + 1) b.round.0 ≡ true)
-          ⊎ ((eqb b.tc 0 ≡ false) × (eqb (b.tc_round.0 + 1) b.round.0 ≡ true) × (leb b.tc_high.0 b.qc_round.0 ≡ true))
-          → (b.qc_round.0 + 1 ≡ b.round.0) ⊎ ExtendsTC b
+      cases : (eqb (b.qc_round.0 + 1) b.round.0 ≡ true) ⊎ ExtendsTC b → (b.qc_round.0 + 1 ≡ b.round.0) ⊎ ExtendsTC b
       cases (inl h) = inl (eqb-true _ _ h)
-      cases (inr h) = inr (record { some = eqb-false _ _ h.0; next = eqb-true _ _ h.1; high = leb-true _ _ h.2 })
+      cases (inr k) = inr k
 
   module _ (c : Core) where
-    from-may : (x y : Bool) → cond x y false ≡ true → (x ≡ true) × (y ≡ true)
-    from-may true y e = (refl, e)
-    from-may false y e = absurd (let h : ◌≡◌ {A = ℕ} 0 1 = cc in omega arith)
-
     -- rule 1
     pub may-newer : may_vote c b ≡ true → c.last_voted_round.0 < b.round.0
     unfolding may_vote
-    may-newer e = ltb-true _ _ (from-may (ltb c.last_voted_round.0 b.round.0) (extends b) e).0
+    may-newer e = ltb-true _ _ (from-both (ltb c.last_voted_round.0 b.round.0) (extends b) e).0
 
     pub may-extends : may_vote c b ≡ true → extends b ≡ true
     unfolding may_vote
-    may-extends e = (from-may (ltb c.last_voted_round.0 b.round.0) (extends b) e).1
+    may-extends e = (from-both (ltb c.last_voted_round.0 b.round.0) (extends b) e).1
 
 -- ---- the vote for a block
 

@@ -1,9 +1,9 @@
 -- 01, Events: PROPOSE, up to its payload. m is the committee, s the state, b the block, r the record's bytes.
 --     leader_check m b                      leader; author stake; verdict
 --     qc_found m r                          what the check of the block's QC finds
---     tc_number m b r                       the number of its TC's check
+--     tc_number_of m r tc, tc_number m b r  the number of its TC's check
 --     proposal_check m b r qc               the checks in 01's order: the number of the first that is not passed, or 0
---     advanced_tc b s                       advance by TC
+--     advanced_by tc s, advanced_tc b s     advance by TC
 --     taken s b signers                     take QC; advance by TC
 --     Proposal                              an outcome before the table of blocks, and whether the block goes on to it
 --     payload_number, by_payload payload a  what the payload's verdict makes of a block whose certificates were taken
@@ -11,7 +11,7 @@
 --     Proposes k p ..                       what code did, against such a definition
 --     payload_answer payload, payload_as a payload   the answer of a payload, and what code hands on with it
 --     taken_most                            the most bytes that a proposal writes
-use Rattle.std.specs.Prelude.{ℕ, ◌+◌, Bool, false, cond, List, ◌≡◌, eqb, Result, Ok, Err, is_ok}
+use Rattle.std.specs.Prelude.{ℕ, ◌+◌, Bool, false, cond, List, ◌≡◌, eqb, Result, Ok, Err, is_ok, Option, None, Some}
 use Rattle.certificates.specs.declared.numbers.Signers.{Signers}
 use Rattle.certificates.specs.declared.error.CertificateError.{CertificateError}
 use Rattle.certificates.specs.Config.{quorum_of}
@@ -21,6 +21,7 @@ use Rattle.certificates.specs.declared.error.Refusal.{Refusal}
 use Rattle.certificates.specs.declared.error.Refusal.TheVariants as refusal
 use Rattle.certificates.specs.Error.{number, wait_payload, wrong_leader, qc_requires_quorum, tc_requires_quorum, invalid_payload, number_of, author_number}
 use Rattle.trace.specs.declared.events.Block.{Block}
+use Rattle.trace.specs.declared.events.BlockTc.{BlockTc}
 use Rattle.trace.specs.Layout.{block_qc, qc_part, tc_part}
 use Rattle.moves.specs.declared.state.Moved.{Moved}
 use Rattle.moves.specs.declared.state.Ran.{Ran}
@@ -39,16 +40,24 @@ abbrev pub qc_found : List ℕ → List ℕ → Result Signers CertificateError
 qc_found m r = embedded_check m (quorum_of m) (qc_part r block_qc)
 
 -- "TC": 0 where the block has none
+abbrev pub tc_number_of : List ℕ → List ℕ → Option BlockTc → ℕ
+tc_number_of m r None = 0
+tc_number_of m r (Some t) = number_of (tc_check m (quorum_of m) (tc_part r t.at)) tc_requires_quorum
+
 unfoldable pub tc_number : List ℕ → Block → List ℕ → ℕ
-tc_number m b r = cond (eqb b.tc 0) 0 (number_of (tc_check m (quorum_of m) (tc_part r b.tc)) tc_requires_quorum)
+tc_number m b r = tc_number_of m r b.tc
 
 -- "leader; author stake; verdict; QC; TC", in this order
 unfoldable pub proposal_check : List ℕ → Block → List ℕ → Result Signers CertificateError → ℕ
 proposal_check m b r qc = first (leader_check m b) (first (number_of qc qc_requires_quorum) (tc_number m b r))
 
--- "advance by TC"
+-- "advance by TC": the round is left where the block has none
+abbrev pub advanced_by : Option BlockTc → State → Step
+advanced_by None s = quiet s
+advanced_by (Some t) s = advanced s t.round.0
+
 unfoldable pub advanced_tc : Block → State → Step
-advanced_tc b s = cond (eqb b.tc 0) (quiet s) (advanced s b.tc_round.0)
+advanced_tc b s = advanced_by b.tc s
 
 -- "take QC; advance by TC"
 unfoldable pub taken : State → Block → Signers → Step

@@ -1,15 +1,16 @@
 -- 01, Events: VOTE, and the vote for a block. m is the committee, own the own place, s the state.
 --     vote_check m current v, handled_vote m own s v  VOTE
---     extends b, may_vote c b                         the voting rules
+--     extends_tc b tc, extends b, may_vote c b        the voting rules
 --     own_vote, voted, voting m own b s               the vote for the block b
 --     voting_most                                     the most bytes that the vote for a block writes
-use Rattle.std.specs.Prelude.{ℕ, ◌+◌, Bool, true, false, cond, List, ltb, leb, eqb}
+use Rattle.std.specs.Prelude.{ℕ, ◌+◌, Bool, true, false, cond, List, ltb, leb, eqb, Option, None, Some}
 use Rattle.certificates.specs.Config.{stake_of, quorum_of}
 use Rattle.certificates.specs.Leader.{leader_of}
 use Rattle.certificates.specs.Messages.{author_check}
 use Rattle.certificates.specs.Error.{stale, author_number}
 use Rattle.trace.specs.declared.events.Vote.{Vote}
 use Rattle.trace.specs.declared.events.Block.{Block}
+use Rattle.trace.specs.declared.events.BlockTc.{BlockTc}
 use Rattle.outputs.specs.Records.{vote, vote_size}
 use Rattle.moves.specs.declared.state.Core.{Core}
 use Rattle.moves.specs.State.{State, with_core, with_voted}
@@ -31,14 +32,16 @@ handled_vote m own s v =
 
 -- ---- the voting rules
 
+-- "its TC has tc.round+1 = round and qc.round at least its largest high round"
+abbrev pub extends_tc : Block → Option BlockTc → Bool
+extends_tc b None = false
+extends_tc b (Some t) = cond (eqb (t.round.0 + 1) b.round.0) (leb t.high.0 b.qc_round.0) false
+
 -- Jolteon's voting rule for a block of round r, in its terms: r is the current round, r > r_vote, and (1) r = qc.r + 1, or (2) r = tc.r + 1
 -- and qc.r ≥ max { qc_high.r | qc_high ∈ tc }. The part behind "and": "qc.round+1 = round, or its TC has tc.round+1 = round and qc.round at
 -- least its largest high round"
 unfoldable pub extends : Block → Bool
-extends b =
-    cond (eqb (b.qc_round.0 + 1) b.round.0) true
-    (cond (eqb b.tc 0) false
-    (cond (eqb (b.tc_round.0 + 1) b.round.0) (leb b.tc_high.0 b.qc_round.0) false))
+extends b = cond (eqb (b.qc_round.0 + 1) b.round.0) true (extends_tc b b.tc)
 
 -- with r > r_vote: "Vote if round > last voted and (..)"
 unfoldable pub may_vote : Core → Block → Bool

@@ -4,6 +4,7 @@ ghost use Rattle.certificates.specs.Config.{quorum_of};
 ghost use Rattle.certificates.specs.Error.{number};
 ghost use Rattle.certificates.specs.Numbers.{round_max};
 ghost use Rattle.aggregator.specs.Tallies.{votes_length, timeouts_length};
+ghost use Rattle.trace.specs.Fields.{TcWithin};
 ghost use Rattle.moves.specs.State.{whole};
 ghost use Rattle.moves.specs.Outcome.{Did};
 ghost use Rattle.handlers.specs.Sound.{signers_of, Answers};
@@ -39,10 +40,10 @@ fn tc_check(members: &[u32], need: Stake, b: Block, input: &[u8]) -> Answer
     requires { need.0 ≡ quorum_of members.now }
     ensures { number result ≡ tc_number members.now b input.now }
 {
-    if b.tc == 0 {
+    let Some(tc) = b.tc else {
         return Ok(());
-    }
-    match check_tc(members, need, tc_part(input, b.tc)) {
+    };
+    match check_tc(members, need, tc_part(input, tc.at)) {
         Ok(_) => Ok(()),
         Err(e) => Err(e.refusal(Refusal::TcRequiresQuorum)),
     }
@@ -72,7 +73,7 @@ fn take_certificates(
     b: Block,
     signers: Signers,
 ) -> Moved
-    requires { (b.qc_round.0 ≤ round_max) × (b.tc_round.0 ≤ round_max) × (length votes.old ≡ votes_length) × (length timeouts.old ≡ timeouts_length) × (taken_most ≤ length out.old) }
+    requires { (b.qc_round.0 ≤ round_max) × TcWithin b.tc × (length votes.old ≡ votes_length) × (length timeouts.old ≡ timeouts_length) × (taken_most ≤ length out.old) }
     ensures { Did taken_most (taken (whole core votes.old timeouts.old) b signers) out.old 0 result.core votes.new timeouts.new out.new result.at }
 {
     let qc = QC {
@@ -81,10 +82,10 @@ fn take_certificates(
         signers,
     };
     let a = process_qc(core, votes, timeouts, out, 0, qc);
-    if b.tc == 0 {
-        return a;
+    match b.tc {
+        Some(tc) => advance_round(a.core, votes, timeouts, out, a.at, tc.round),
+        None => a,
     }
-    advance_round(a.core, votes, timeouts, out, a.at, b.tc_round)
 }
 
 // WAIT PAYLOAD where it is absent, 27 where it is invalid; the block goes on where it is ready.
@@ -117,7 +118,7 @@ pub fn handle_proposal(
     b: Block,
     payload: u8,
 ) -> Ran
-    requires { (need.0 ≡ quorum_of members.now) × (b.qc_round.0 ≤ round_max) × (b.tc_round.0 ≤ round_max) × (length votes.old ≡ votes_length) × (length timeouts.old ≡ timeouts_length) × (taken_most ≤ length out.old) }
+    requires { (need.0 ≡ quorum_of members.now) × (b.qc_round.0 ≤ round_max) × TcWithin b.tc × (length votes.old ≡ votes_length) × (length timeouts.old ≡ timeouts_length) × (taken_most ≤ length out.old) }
     ensures { Proposes taken_most (proposal_of members.now (whole core votes.old timeouts.old) b input.now payload) out.old 0 result votes.new timeouts.new out.new }
 {
     match check_proposal(members, need, b, input) {

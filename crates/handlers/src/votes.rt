@@ -3,6 +3,7 @@ ghost use Rattle.std.specs.Prelude.{◌≡◌, ◌+◌, ◌≤◌, ◌<◌, leng
 ghost use Rattle.certificates.specs.Config.{stake_of, quorum_of};
 ghost use Rattle.certificates.specs.Error.{number};
 ghost use Rattle.certificates.specs.Numbers.{round_max};
+ghost use Rattle.trace.specs.Fields.{TcWithin};
 ghost use Rattle.moves.specs.State.{whole};
 ghost use Rattle.moves.specs.Outcome.{Reached};
 ghost use Rattle.moves.specs.Moves.{certify_most};
@@ -111,17 +112,17 @@ pub fn handle_vote(
 // The block extends its QC's round, or a TC's whose high rounds are not above the QC's.
 #[tactic(auto, unfolding(crate::specs::Votes::extends))]
 fn is_extending(b: Block) -> bool
-    requires { (b.qc_round.0 ≤ round_max) × (b.tc_round.0 ≤ round_max) }
+    requires { (b.qc_round.0 ≤ round_max) × TcWithin b.tc }
     ensures { result ≡ extends b }
 {
     b.qc_round.0 + 1 == b.round.0
-        || b.tc != 0 && b.tc_round.0 + 1 == b.round.0 && b.tc_high.0 <= b.qc_round.0
+        || b.tc.is_some_and(|tc| tc.round.0 + 1 == b.round.0 && tc.high.0 <= b.qc_round.0)
 }
 
 // Both rules: safety_rule_1 and safety_rule_2.
 #[tactic(auto, unfolding(crate::specs::Votes::may_vote))]
 fn may_vote(core: Core, b: Block) -> bool
-    requires { (b.qc_round.0 ≤ round_max) × (b.tc_round.0 ≤ round_max) }
+    requires { (b.qc_round.0 ≤ round_max) × TcWithin b.tc }
     ensures { result ≡ may_vote core b }
 {
     core.last_voted_round.0 < b.round.0 && is_extending(b)
@@ -196,7 +197,7 @@ pub fn make_vote(
     at: usize,
     b: Block,
 ) -> Ran
-    requires { Sound members.now own.0 votes.old timeouts.old × (need.0 ≡ quorum_of members.now) × (b.round.0 ≤ round_max) × (b.qc_round.0 ≤ round_max) × (b.tc_round.0 ≤ round_max) × (at + voting_most ≤ length out.old) }
+    requires { Sound members.now own.0 votes.old timeouts.old × (need.0 ≡ quorum_of members.now) × (b.round.0 ≤ round_max) × (b.qc_round.0 ≤ round_max) × TcWithin b.tc × (at + voting_most ≤ length out.old) }
     ensures { Reached voting_most (voting members.now own.0 b (whole core votes.old timeouts.old)) out.old at result votes.new timeouts.new out.new }
 {
     if b.round.0 == core.round.0 {

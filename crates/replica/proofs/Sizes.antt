@@ -30,6 +30,7 @@ use Rattle.certificates.specs.Numbers.{round_max}
 use Rattle.trace.specs.Layout.{timeout_qc, tc_body, tc_round, qc_part, tc_part, block_qc, payload_of}
 use Rattle.trace.specs.declared.events.Kind.{Kind}
 use Rattle.trace.specs.declared.events.Block.{Block}
+use Rattle.trace.specs.declared.events.BlockTc.{BlockTc}
 use Rattle.trace.specs.declared.events.Vote.{Vote}
 use Rattle.trace.specs.declared.events.Timeout.{Timeout}
 use Rattle.outputs.specs.Records.{Rec, vote, timeout, tc, make, make_with, sync, clean_proposer, clean_mempool, timer_reset, enc_all, size_of, tc_most, make_with_most, commit_size}
@@ -43,7 +44,7 @@ use Rattle.moves.specs.Tallied.{after_vote, after_timeout, vote_tallied, timeout
 use Rattle.handlers.specs.Sound.{first, signers_of}
 use Rattle.handlers.specs.Votes.{vote_check, may_vote, handled_vote, own_vote, voted, voting, voting_most}
 use Rattle.handlers.specs.Timeouts.{timeout_check, stale_if, timeout_taken, timeout_with, handled_timeout, tc_taken, tc_with, handled_tc, own_timeout, handled_tick, handle_timeout_most, handle_tc_most, local_timeout_most}
-use Rattle.handlers.specs.Proposals.{Proposal, proposal_check, advanced_tc, taken, by_payload, proposal_with, proposal_of, taken_most}
+use Rattle.handlers.specs.Proposals.{Proposal, proposal_check, advanced_by, advanced_tc, taken, by_payload, proposal_with, proposal_of, taken_most}
 use Rattle.synchronizer.specs.declared.table.Slot.{Slot}
 use Rattle.synchronizer.specs.declared.settle.Task.{Task}
 use Rattle.synchronizer.specs.declared.settle.Arrival.{Arrival}
@@ -206,7 +207,11 @@ module _ (m : List ℕ) (own : ℕ) where
 
   advanced-tc-size : (b : Block) (s : State) → size (advanced_tc b s).outs ≤ advance_most
   unfolding advanced_tc
-  advanced-tc-size b s = by_cases (eqb b.tc 0) (λ e. rw e (size_none advance_most)) (λ e. rw e (advanced-size s b.tc_round.0))
+  advanced-tc-size b s = cases b.tc
+    where
+      cases : (k : Option BlockTc) → size (advanced_by k s).outs ≤ advance_most
+      cases None = size_none advance_most
+      cases (Some k) = advanced-size s k.round.0
 
   taken-size : (s : State) (b : Block) (signers : Signers) → size (taken s b signers).outs ≤ taken_most
   unfolding taken

@@ -25,7 +25,7 @@ use Rattle.trace.specs.declared.events.Timeout.{Timeout}
 use Rattle.trace.specs.declared.events.Block.{Block}
 use Rattle.trace.specs.Form.{form_of}
 use Rattle.trace.specs.Limits.{limit_of}
-use Rattle.trace.specs.Fields.{vote_of, timeout_of, block_of}
+use Rattle.trace.specs.Fields.{TcWithin, vote_of, timeout_of, block_of}
 use Rattle.certificates.specs.Numbers.{round_max}
 use Rattle.trace.specs.Layout.{tc_body, tc_round, payload_of}
 use Rattle.aggregator.specs.Tallies.{votes_length, timeouts_length}
@@ -374,7 +374,7 @@ filled r stakes votes timeouts b s v t = record { members = rw (← b) s; no-vot
 
 module _ {m votes timeouts : List ℕ} {own need : ℕ} (r : List ℕ) (out : ℕ) (s : Sound m own votes timeouts) (q : need ≡ quorum_of m) (h : first_most ≤ out) where
   pub propose-needs : {b : Block} → b ≡ block_of r → limit_of r Kind.Propose ≡ 0
-      → (need ≡ quorum_of m) × (b.qc_round.0 ≤ round_max) × (b.tc_round.0 ≤ round_max) × (length votes ≡ votes_length) × (length timeouts ≡ timeouts_length) × (8 ≤ out)
+      → (need ≡ quorum_of m) × (b.qc_round.0 ≤ round_max) × TcWithin b.tc × (length votes ≡ votes_length) × (length timeouts ≡ timeouts_length) × (8 ≤ out)
   propose-needs e l = (q, rw e (block-qc-round-le r l), rw e (block-tc-round-le r l), s.long, s.wide, omega arith)
 
   module _ {k : Kind} (l : limit_of r k ≡ 0) where
@@ -396,7 +396,7 @@ module _ {m votes timeouts : List ℕ} {own need : ℕ} (r : List ℕ) (out : �
 module _ (b : Begun) (r stakes : List ℕ) {votes timeouts : List ℕ} (o : Ongoing b r stakes votes timeouts) {k : Block} (e : k ≡ block_of r) where
   pub conclude-needs : (at : ℕ) {out : ℕ} → at + voting_most ≤ out
       → Sound (take (b.seat.count - 0) (drop 0 stakes)) b.seat.own.0 votes timeouts × (b.need.0 ≡ quorum_of (take (b.seat.count - 0) (drop 0 stakes)))
-      × (k.round.0 ≤ round_max) × (k.qc_round.0 ≤ round_max) × (k.tc_round.0 ≤ round_max) × (at + voting_most ≤ out)
+      × (k.round.0 ≤ round_max) × (k.qc_round.0 ≤ round_max) × TcWithin k.tc × (at + voting_most ≤ out)
   conclude-needs at h =
       (rw (members-part b.seat stakes) o.going.sound, rw (members-part b.seat stakes) o.need, rw e o.going.round, rw e o.going.qc_round, rw e o.going.tc_round, h)
 

@@ -18,7 +18,7 @@ use Rattle.trace.specs.declared.events.Kind.{Kind}
 use Rattle.trace.specs.declared.events.Block.{Block}
 use Rattle.trace.specs.Form.{form_of}
 use Rattle.trace.specs.Limits.{limit_of}
-use Rattle.trace.specs.Fields.{vote_of, timeout_of, block_of}
+use Rattle.trace.specs.Fields.{TcWithin, vote_of, timeout_of, block_of}
 use Rattle.certificates.specs.Numbers.{round_max}
 use Rattle.trace.specs.Layout.{tc_body, tc_round, payload_of}
 use Rattle.aggregator.specs.Rows.{zeros}
@@ -208,7 +208,7 @@ pub record Going (m : List ℕ) (own : ℕ) (r votes timeouts : List ℕ) (at : 
   pub sound : Sound m own votes timeouts
   pub round : (block_of r).round.0 ≤ round_max
   pub qc_round : (block_of r).qc_round.0 ≤ round_max
-  pub tc_round : (block_of r).tc_round.0 ≤ round_max
+  pub tc_round : TcWithin (block_of r).tc
   pub short : at ≤ 8
 
 -- the first part writes at most this much

@@ -14,7 +14,7 @@ use lib.Dec.{eqb, ltb}
 use lib.ListN.{length}
 use Rattle.aggregator.specs.Tally.{Added}
 use Rattle.aggregator.specs.declared.tallies.AddError.TheVariants.{NoRoom, Used}
-use Rattle.std.specs.Prelude.{Some, Ok, Err, None}
+use Rattle.std.specs.Prelude.{Some, Ok, Err, None, Option}
 use Rattle.std.specs.Prelude as std
 use Rattle.certificates.specs.declared.numbers.Round.{Round}
 use Rattle.certificates.specs.declared.numbers.Stake.{Stake}
@@ -31,6 +31,7 @@ use Rattle.certificates.specs.Messages.{tc_check, embedded_check, author_check}
 use Rattle.certificates.specs.Error.{stale, wait_parent, wait_payload, invalid_payload, bad_record, wrong_leader, no_room, round_too_high, list_too_long, unknown_authority, invalid_signature, authority_reuse, qc_requires_quorum, tc_requires_quorum, table_full, tallies_full, ancestor_absent, round_not_below, empty_tc, started_again, number_of, author_number}
 use Rattle.trace.specs.declared.events.Kind.{Kind}
 use Rattle.trace.specs.declared.events.Block.{Block}
+use Rattle.trace.specs.declared.events.BlockTc.{BlockTc}
 use Rattle.trace.specs.Form.{form_of, any_above}
 use Rattle.trace.specs.Fields.{vote_of, timeout_of, block_of}
 use Rattle.trace.specs.Layout.{signers_max, timeout_qc, tc_body, qc_part, tc_part, tc_round, payload_of}
@@ -44,7 +45,7 @@ use Rattle.moves.proofs.TallyLaws.{timeout-tallied-is}
 use Rattle.handlers.specs.Sound.{first, signers_of}
 use Rattle.handlers.specs.Votes.{vote_check, handled_vote}
 use Rattle.handlers.specs.Timeouts.{timeout_check, timeout_taken, timeout_with, handled_timeout, tc_taken, stale_if, tc_with, handled_tc, ticked, own_timeout, handled_tick}
-use Rattle.handlers.specs.Proposals.{leader_check, qc_found, tc_number, proposal_check, taken, payload_number, by_payload}
+use Rattle.handlers.specs.Proposals.{leader_check, qc_found, tc_number_of, tc_number, proposal_check, taken, payload_number, by_payload}
 use Rattle.handlers.proofs.VoteTheorems.{Votes, tallied-votes}
 use Rattle.handlers.proofs.ProposalTheorems.{proposal-refused, proposal-takes, certificates-keep}
 use Rattle.replica.specs.Started.{roomy}
@@ -97,12 +98,16 @@ module _ (P : ℕ → Type 0) where
     first-in : (a b : ℕ) → P a → P b → P (first a b)
     first-in a b h k = in-cond (eqb a 0) b a k h
 
+    tc-in : (m r : List ℕ) (k : Option BlockTc) → P (tc_number_of m r k)
+    tc-in m r None = c.passed
+    tc-in m r (Some k) = number_in (tc_check m (quorum_of m) (tc_part r k.at)) tc_requires_quorum c.tc
+
     pub check-in : (m : List ℕ) (b : Block) (r : List ℕ) (x : std.Result Signers CertificateError) → P (proposal_check m b r x)
     unfolding proposal_check leader_check tc_number
     check-in m b r x =
         first-in _ _
         (in-cond (eqb (leader_of m b.round.0) b.author.0) _ wrong_leader (author-in (author_check m b.author.0 b.verdict)) c.leader)
-        (first-in _ _ (number_in x qc_requires_quorum c.qc) (in-cond (eqb b.tc 0) 0 _ c.passed (number_in (tc_check m (quorum_of m) (tc_part r b.tc)) tc_requires_quorum c.tc)))
+        (first-in _ _ (number_in x qc_requires_quorum c.qc) (tc-in m r b.tc))
 
     checked-in : (n : ℕ) (s : State) (o : Outcome) → P n → P o.answer → P (checked n s o).answer
     checked-in n s o h k = cases (eqb n 0)

@@ -18,10 +18,11 @@ use Rattle.certificates.specs.declared.numbers.Stake.{Stake}
 use Rattle.certificates.specs.Config.{quorum_from, quorum_of}
 use Rattle.certificates.specs.Messages.{embedded_check, tc_check}
 use Rattle.certificates.specs.Numbers.{round_max}
-use Rattle.certificates.specs.Error.{round_too_high, qc_requires_quorum, tc_requires_quorum, number_of}
+use Rattle.certificates.specs.Error.{round_too_high, qc_requires_quorum, tc_requires_quorum}
 use Rattle.certificates.proofs.ErrorLaws.{number-accepted}
 use Rattle.trace.specs.declared.events.Kind.{Kind}
 use Rattle.trace.specs.declared.events.Block.{Block}
+use Rattle.trace.specs.declared.events.BlockTc.{BlockTc}
 use Rattle.trace.specs.Form.{form_of}
 use Rattle.trace.specs.Limits.{limit_of}
 use Rattle.trace.specs.Fields.{vote_of, timeout_of, block_of}
@@ -186,11 +187,8 @@ module _ (w : World) (e : Event) (t : Stake) (s : Started w t) (p : Passed w e) 
   pub passed-qc : (q : Signers) × (embedded_check m (quorum_of m) (qc_part r block_qc) ≡ Ok q)
   passed-qc = number-accepted (qc_found m r) qc_requires_quorum (λ z. omega arith) (checks-passed m b r (qc_found m r) p.checks).qc
 
-  pub passed-tc : (b.tc ≡ 0 → ⊥) → (q : Signers) × (tc_check m (quorum_of m) (tc_part r b.tc) ≡ Ok q)
+  pub passed-tc : {k : BlockTc} → b.tc ≡ Some k → (q : Signers) × (tc_check m (quorum_of m) (tc_part r k.at) ≡ Ok q)
   unfolding tc_number
-  passed-tc h = cases (eqb b.tc 0) refl (checks-passed m b r (qc_found m r) p.checks).tc
-    where
-      cases : (u : Bool) → eqb b.tc 0 ≡ u → cond u 0 (number_of (tc_check m (quorum_of m) (tc_part r b.tc)) tc_requires_quorum) ≡ 0
-          → (q : Signers) × (tc_check m (quorum_of m) (tc_part r b.tc) ≡ Ok q)
-      cases true u f = absurd (h (eqb-true _ 0 u))
-      cases false u f = number-accepted (tc_check m (quorum_of m) (tc_part r b.tc)) tc_requires_quorum (λ z. omega arith) f
+  passed-tc {k} h =
+      number-accepted (tc_check m (quorum_of m) (tc_part r k.at)) tc_requires_quorum (λ z. omega arith)
+      (rw h at (checks-passed m b r (qc_found m r) p.checks).tc)

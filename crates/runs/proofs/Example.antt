@@ -25,7 +25,7 @@ use Rattle.certificates.specs.Messages.{is_genesis, verdict_in, count_of, places
 use Rattle.certificates.specs.Num.{le, num_at, hash_at, nums_at}
 use Rattle.certificates.specs.Signers.{bit_of, sum_at, is_in, stake_in, signers_from, signers_of, weight_of, member, stake_on}
 use Rattle.certificates.specs.Start.{member_count, own_place, stakes_in, key_at, keys_from, keys_in, below, ascending, setup_at, padded, loaded_stakes}
-use Rattle.trace.specs.Fields.{vote_of, tc_round_of, tc_high_of, block_of}
+use Rattle.trace.specs.Fields.{vote_of, block_tc_of, block_of}
 use Rattle.trace.specs.Form.{block_marks, any_above, is_formed, form_of}
 use Rattle.trace.specs.Layout.{qc_part, flag_at, tc_at, block_end, payload_of}
 use Rattle.trace.specs.Limits.{block_counts, block_rounds, limit_of}
@@ -49,7 +49,7 @@ use Rattle.runs.specs.Signed.{Members, Sits, Signed, Certificate, qc_bytes}
 
 -- every definition that a step rests on: who unfolds this one unfolds them all
 pub definitions : ℕ
-unfolding sum stake_of quorum_from quorum_of limited setup_of leader_of is_genesis verdict_in count_of places_in is_whole unknown_to settled_list check_from check_part qc_check equals_genesis embedded_check author_check le num_at hash_at nums_at bit_of sum_at is_in stake_in signers_from signers_of weight_of member stake_on member_count own_place stakes_in key_at keys_from keys_in below ascending setup_at padded loaded_stakes vote_of tc_round_of tc_high_of block_of block_marks any_above is_formed form_of qc_part flag_at tc_at block_end payload_of block_counts block_rounds limit_of digits hash_bytes bytes_of places_from places_of find_row find_free find_heavy heavy dropped place_for table_for added after vote_added votes_after is_vote kept new_vote no_high with_author answer_of is_two_chain clean_of commit_if linked_of processed_by wait_of settled_of fits lowest place_of stored cleared parent_of ancestors_of on_parent walk_from walk_of commit_of advanced raised taken_qc make_of certified vote_tallied leader_check tc_number proposal_check advanced_tc taken payload_number by_payload proposal_with proposal_of vote_check handled_vote extends may_vote own_vote voted voting settled_for after_settled processed processed_table going_on going_on_table sized shaped started_of roomy new_stakes announced begun stepped world_after outs_of uncut qc_bytes ones
+unfolding sum stake_of quorum_from quorum_of limited setup_of leader_of is_genesis verdict_in count_of places_in is_whole unknown_to settled_list check_from check_part qc_check equals_genesis embedded_check author_check le num_at hash_at nums_at bit_of sum_at is_in stake_in signers_from signers_of weight_of member stake_on member_count own_place stakes_in key_at keys_from keys_in below ascending setup_at padded loaded_stakes vote_of block_tc_of block_of block_marks any_above is_formed form_of qc_part flag_at tc_at block_end payload_of block_counts block_rounds limit_of digits hash_bytes bytes_of places_from places_of find_row find_free find_heavy heavy dropped place_for table_for added after vote_added votes_after is_vote kept new_vote no_high with_author answer_of is_two_chain clean_of commit_if linked_of processed_by wait_of settled_of fits lowest place_of stored cleared parent_of ancestors_of on_parent walk_from walk_of commit_of advanced raised taken_qc make_of certified vote_tallied leader_check tc_number proposal_check advanced_tc taken payload_number by_payload proposal_with proposal_of vote_check handled_vote extends may_vote own_vote voted voting settled_for after_settled processed processed_table going_on going_on_table sized shaped started_of roomy new_stakes announced begun stepped world_after outs_of uncut qc_bytes ones
 definitions = 0
 
 -- ---- records

@@ -16,7 +16,7 @@ use native.Mathlib.Omega.{arith}
 use borrow.Author.Tests.{eqb-true, eqb-false, ne_eqb}
 use lib.Dec.{eqb, ltb, leb, lit<}
 use lib.ListN.{length, get_or}
-use Rattle.std.specs.Prelude.{Ok, Result}
+use Rattle.std.specs.Prelude.{Ok, Result, Option, None, Some}
 use Rattle.certificates.specs.declared.numbers.Hash.{Hash}
 use Rattle.certificates.specs.declared.numbers.Signers.{Signers}
 use Rattle.certificates.specs.declared.messages.QC.{QC}
@@ -35,6 +35,7 @@ use Rattle.certificates.proofs.MessageLaws.{author}
 use Rattle.certificates.proofs.Accepted.{certified, certified-known, certified-named, walked-distinct, embedded-part, tc-part}
 use Rattle.trace.specs.declared.events.Vote.{Vote}
 use Rattle.trace.specs.declared.events.Block.{Block}
+use Rattle.trace.specs.declared.events.BlockTc.{BlockTc}
 use Rattle.trace.specs.Layout.{block_qc, timeout_qc, tc_body, tc_round, qc_part, tc_part, highs_of}
 use Rattle.trace.specs.Fields.{timeout_of, block_of}
 use Rattle.trace.proofs.PartLaws.{qc-part-hash, qc-part-round, tc-part-round}
@@ -48,12 +49,12 @@ use Rattle.synchronizer.proofs.KeptLaws.{settled-keeps}
 use Rattle.moves.specs.declared.state.Core.{Core}
 use Rattle.moves.specs.State.{State, with_core, with_voted, with_committed}
 use Rattle.moves.specs.Outcome.{Outcome, quiet, wrote, done, after, refused, checked}
-use Rattle.moves.specs.Moves.{advanced, make_with_of}
+use Rattle.moves.specs.Moves.{make_with_of}
 use Rattle.moves.specs.Tallied.{qc_of, vote_tallied, timeout_tallied}
 use Rattle.handlers.specs.Sound.{first as first_of, signers_of}
 use Rattle.handlers.specs.Votes.{vote_check, handled_vote, may_vote, own_vote, voted, voting}
 use Rattle.handlers.specs.Timeouts.{timeout_check, timeout_taken, timeout_with, handled_timeout, tc_taken, stale_if, tc_with, handled_tc, voted_up, ticked, own_timeout, handled_tick}
-use Rattle.handlers.specs.Proposals.{qc_found, proposal_check, advanced_tc, taken, by_payload, proposal_of}
+use Rattle.handlers.specs.Proposals.{qc_found, proposal_check, advanced_by, advanced_tc, taken, by_payload, proposal_of}
 use Rattle.handlers.proofs.HandlerLaws.{first-both}
 use Rattle.handlers.proofs.ProposalTheorems.{checks-passed, proposal-takes, proposal-refused}
 use Rattle.replica.specs.Blocks.{arrival_for, settled_for, settled_step, after_settled, processed, going_on}
@@ -312,11 +313,11 @@ module _ (m : List ℕ) (g : Signatures) where
 
       begins-advanced-tc : {s : State} → Kept m g s → (b : Block) → Begins m g (advanced_tc b s)
       unfolding advanced_tc
-      begins-advanced-tc {s} k b = cases (eqb b.tc 0)
+      begins-advanced-tc {s} k b = cases b.tc
         where
-          cases : (c : Bool) → Begins m g (cond c (quiet s) (advanced s b.tc_round.0))
-          cases true = begins-quiet m g k
-          cases false = begins-advanced m g k b.tc_round.0
+          cases : (c : Option BlockTc) → Begins m g (advanced_by c s)
+          cases None = begins-quiet m g k
+          cases (Some c) = begins-advanced m g k c.round.0
 
       begins-certificates : {s : State} → Kept m g s → (r : List ℕ) → SureQC g (qc_part r block_qc) → proposal_check m (block_of r) r (qc_found m r) ≡ 0
           → Begins m g (taken s (block_of r) (signers_of (qc_found m r)))

@@ -13,7 +13,7 @@ use mathlib.Core.Path.{◌≡◌, refl}
 use native.Mathlib.Omega.{arith}
 use borrow.Author.Tests.{ltb-true, ltb-false}
 use lib.Dec.{ltb, eqb}
-use Rattle.std.specs.Prelude.{None, Some, Ok, Err}
+use Rattle.std.specs.Prelude.{Option, None, Some, Ok, Err}
 use Rattle.aggregator.specs.Tally.{Added}
 use Rattle.aggregator.specs.declared.tallies.AddError.TheVariants.{NoRoom, Used}
 use Rattle.certificates.specs.declared.numbers.Hash.{Hash}
@@ -25,6 +25,7 @@ use Rattle.certificates.specs.Error.{qc_requires_quorum, tc_requires_quorum, num
 use Rattle.trace.specs.declared.events.Vote.{Vote}
 use Rattle.trace.specs.declared.events.Timeout.{Timeout}
 use Rattle.trace.specs.declared.events.Block.{Block}
+use Rattle.trace.specs.declared.events.BlockTc.{BlockTc}
 use Rattle.trace.specs.Layout.{timeout_qc, tc_body, qc_part, tc_part, highs_of}
 use Rattle.outputs.specs.Records.{Rec, timer_reset, tc, make, make_with}
 use Rattle.aggregator.specs.Tallies.{highs_at, vote_added, votes_after, timeout_added, timeouts_after}
@@ -38,7 +39,7 @@ use Rattle.moves.proofs.TallyLaws.{vote-tallied-is, timeout-tallied-is}
 use Rattle.handlers.specs.Sound.{first, signers_of}
 use Rattle.handlers.specs.Votes.{vote_check, handled_vote, own_vote}
 use Rattle.handlers.specs.Timeouts.{timeout_check, timeout_taken, timeout_with, handled_timeout, tc_taken, stale_if, tc_with, handled_tc, own_timeout}
-use Rattle.handlers.specs.Proposals.{qc_found, proposal_check, advanced_tc, taken, by_payload, proposal_with, proposal_of}
+use Rattle.handlers.specs.Proposals.{qc_found, proposal_check, advanced_by, advanced_tc, taken, by_payload, proposal_with, proposal_of}
 use Rattle.replica.specs.Step.{announced}
 use Rattle.runs.specs.Runs.{only, signed_in, delivered_in}
 use Rattle.runs.proofs.Lists.{only-append}
@@ -241,11 +242,11 @@ module _ (m : List ℕ) (own : ℕ) (s : State) where
 
 plain-advanced-tc : (s : State) (b : Block) → Plain s.core (advanced_tc b s)
 unfolding advanced_tc
-plain-advanced-tc s b = cases (eqb b.tc 0)
+plain-advanced-tc s b = cases b.tc
   where
-    cases : (t : Bool) → Plain s.core (cond t (quiet s) (advanced s b.tc_round.0))
-    cases true = plain_quiet s
-    cases false = plain-advanced s b.tc_round.0
+    cases : (k : Option BlockTc) → Plain s.core (advanced_by k s)
+    cases None = plain_quiet s
+    cases (Some k) = plain-advanced s k.round.0
 
 pub plain-certificates : (s : State) (b : Block) (signers : Signers) → Plain s.core (taken s b signers)
 unfolding taken

@@ -22,6 +22,7 @@ use Rattle.trace.specs.Fields.{vote_of, timeout_of, block_of}
 use Rattle.trace.specs.Layout.{block_qc, timeout_qc, tc_body, qc_part, tc_part, payload_of}
 use Rattle.trace.proofs.FieldLaws.{vote-verdict, timeout-verdict}
 use Rattle.trace.proofs.FormLaws.{formed}
+use Rattle.trace.specs.declared.events.BlockTc.{BlockTc}
 use Rattle.outputs.specs.Records.{Rec, make, make_with}
 use Rattle.aggregator.specs.Tally.{signers}
 use Rattle.replica.specs.Step.{World, committee, handled}
@@ -40,7 +41,7 @@ pub record SureEvent (g : Signatures) (e : Event) : Type 0 where
   pub timeout-qc : form_of e.bytes ≡ Some Kind.Timeout → SureQC g (qc_part e.bytes timeout_qc)
   pub tc : form_of e.bytes ≡ Some Kind.Tc → SureTC g (tc_part e.bytes tc_body)
   pub block-qc : form_of e.bytes ≡ Some Kind.Propose → SureQC g (qc_part e.bytes block_qc)
-  pub block-tc : form_of e.bytes ≡ Some Kind.Propose → ((block_of e.bytes).tc ≡ 0 → ⊥) → SureTC g (tc_part e.bytes (block_of e.bytes).tc)
+  pub block-tc : form_of e.bytes ≡ Some Kind.Propose → (k : BlockTc) → (block_of e.bytes).tc ≡ Some k → SureTC g (tc_part e.bytes k.at)
 
 -- a record without a form brings none
 pub sure-bad : (g : Signatures) (e : Event) → form_of e.bytes ≡ None → SureEvent g e
@@ -113,7 +114,7 @@ module _ (w : World) (e : Event) (t : Stake) (s : Started w t) where
           timeout-qc = λ f o v p i. tt;
           tc = λ f v p i. tt;
           block-qc = λ f o v p i. tt;
-          block-tc = λ f z v p i. tt;
+          block-tc = λ f k z v p i. tt;
         })
         (record { votes = λ to n h v. tt; expires = λ u q v. tt })
 

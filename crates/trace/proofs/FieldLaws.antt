@@ -3,14 +3,18 @@
 --     timeout-round, .., timeout-qc-round                        of `timeout_of s`
 --     block-digest, .., block-tc-high                            of `block_of s`
 -- Assumes nothing.
-use mathlib.Core.Path.{◌≡◌, refl}
+use mathlib.Core.Path.{◌≡◌, refl, sym, ap, ◌∙◌}
+use mathlib.Core.Bool.{Bool, true, false, cond}
 use mathlib.Core.List.{List}
 use Prim.Native.Nat.{ℕ}
 use lib.ListN.{get_or}
-use borrow.Author.Tests.{eq-eqb, ne_eqb}
+use lib.Dec.{eqb}
+use borrow.Author.Tests.{eqb-true, eqb-false}
+use Rattle.std.specs.Prelude.{None, Some}
 use Rattle.certificates.specs.Num.{num_at, hash_at}
 use Rattle.trace.specs.Layout.{qc_round, tc_round, tc_part, block_qc, timeout_qc, tc_at, largest_high}
-use Rattle.trace.specs.Fields.{vote_of, timeout_of, tc_round_of, tc_high_of, block_of}
+use Rattle.trace.specs.Fields.{vote_of, timeout_of, block_tc_of, block_of}
+use Rattle.trace.specs.declared.events.BlockTc.{BlockTc}
 
 module _ (s : List ℕ) where
   pub vote-hash : (vote_of s).hash ≡ hash_at s 2
@@ -73,23 +77,39 @@ module _ (s : List ℕ) where
   unfolding block_of
   block-qc-round = refl
 
-  pub block-tc : (block_of s).tc ≡ tc_at s
+  pub block-tc : (block_of s).tc ≡ block_tc_of s
   unfolding block_of
   block-tc = refl
 
+  abbrev there : BlockTc
+  there = record { at = tc_at s; round = record { 0 = tc_round s (tc_at s) }; high = record { 0 = largest_high (tc_part s (tc_at s)) } }
+
   -- a block without a TC, and one with
-  pub block-tc-round-none : (block_of s).tc ≡ 0 → (block_of s).tc_round.0 ≡ 0
-  unfolding block_of tc_round_of
-  block-tc-round-none h = rw (eq-eqb _ _ h)
+  pub block-tc-none : (block_of s).tc ≡ None → tc_at s ≡ 0
+  unfolding block_of block_tc_of
+  block-tc-none h = cases (eqb (tc_at s) 0) refl h
+    where
+      cases : (u : Bool) → eqb (tc_at s) 0 ≡ u → cond u None (Some there) ≡ None → tc_at s ≡ 0
+      cases true e f = eqb-true _ 0 e
+      cases false e f = absurd (cc)
 
-  pub block-tc-high-none : (block_of s).tc ≡ 0 → (block_of s).tc_high.0 ≡ 0
-  unfolding block_of tc_high_of
-  block-tc-high-none h = rw (eq-eqb _ _ h)
+  module _ {t : BlockTc} (h : (block_of s).tc ≡ Some t) where
+    block-tc-is : (t ≡ there) × (tc_at s ≡ 0 → ⊥)
+    unfolding block_of block_tc_of
+    block-tc-is = cases (eqb (tc_at s) 0) refl h
+      where
+        cases : (u : Bool) → eqb (tc_at s) 0 ≡ u → cond u None (Some there) ≡ Some t → (t ≡ there) × (tc_at s ≡ 0 → ⊥)
+        cases true e f = absurd (cc)
+        cases false e f = (cc, eqb-false _ 0 e)
 
-  pub block-tc-round : ((block_of s).tc ≡ 0 → ⊥) → (block_of s).tc_round.0 ≡ tc_round s (block_of s).tc
-  unfolding block_of tc_round_of
-  block-tc-round h = rw (ne_eqb _ _ h)
+    pub block-tc-at : t.at ≡ tc_at s
+    block-tc-at = ap (λ (x : BlockTc). x.at) block-tc-is.0
 
-  pub block-tc-high : ((block_of s).tc ≡ 0 → ⊥) → (block_of s).tc_high.0 ≡ largest_high (tc_part s (block_of s).tc)
-  unfolding block_of tc_high_of
-  block-tc-high h = rw (ne_eqb _ _ h)
+    pub block-tc-some : t.at ≡ 0 → ⊥
+    block-tc-some e = block-tc-is.1 (sym block-tc-at ∙ e)
+
+    pub block-tc-round : t.round.0 ≡ tc_round s t.at
+    block-tc-round = rw block-tc-is.0 refl
+
+    pub block-tc-high : t.high.0 ≡ largest_high (tc_part s t.at)
+    block-tc-high = rw block-tc-is.0 refl

@@ -21,6 +21,8 @@ use Rattle.trace.specs.Record.{record_max}
 use Rattle.trace.specs.Layout.{qc_size, qc_part, tc_size, tc_part, block_qc, timeout_qc, tc_body, flag_at, tc_at, block_end, payload_of}
 use Rattle.trace.specs.Form.{kind_of, size_of, marks_of, payloads_of, any_above, block_marks, is_formed, form_if, form_of}
 use Rattle.trace.specs.Fields.{vote_of, timeout_of, block_of}
+use Rattle.trace.specs.declared.events.BlockTc.{BlockTc}
+use Rattle.trace.proofs.FieldLaws.{block-tc-at, block-tc-some}
 use Rattle.trace.specs.declared.events.Kind.{Kind}
 use Rattle.trace.specs.declared.events.Kind.TheVariants.{Start, Propose, Vote, Timeout, Tc, Loopback}
 use Rattle.trace.proofs.Bounds.{none_above}
@@ -180,9 +182,11 @@ module _ (s : List ℕ) where
     pub propose-qc-whole : 43 + 2 * num_at 2 (qc_part s block_qc) 41 ≤ length (qc_part s block_qc)
     propose-qc-whole = let l = propose-size in block-qc s (omega arith)
 
-    pub propose-tc-whole : ((block_of s).tc ≡ 0 → ⊥) → 11 + 10 * num_at 2 (tc_part s (block_of s).tc) 9 ≤ length (tc_part s (block_of s).tc)
-    unfolding block_of
-    propose-tc-whole n = let l = propose-size in block-tc s (omega arith) n
+    pub propose-tc-whole : {t : BlockTc} → (block_of s).tc ≡ Some t → 11 + 10 * num_at 2 (tc_part s t.at) 9 ≤ length (tc_part s t.at)
+    propose-tc-whole h =
+        let l = propose-size in
+        let a = block-tc-at s h in
+        rw a (block-tc s (omega arith) (rw a at (block-tc-some s h)))
 
     pub propose-verdict-le : (block_of s).verdict ≤ 1
     propose-verdict-le = block-verdict (formed s Propose e).marks
@@ -197,6 +201,8 @@ module _ (s : List ℕ) where
     pub loopback-qc-whole : 43 + 2 * num_at 2 (qc_part s block_qc) 41 ≤ length (qc_part s block_qc)
     loopback-qc-whole = let l = loopback-size in block-qc s (omega arith)
 
-    pub loopback-tc-whole : ((block_of s).tc ≡ 0 → ⊥) → 11 + 10 * num_at 2 (tc_part s (block_of s).tc) 9 ≤ length (tc_part s (block_of s).tc)
-    unfolding block_of
-    loopback-tc-whole n = let l = loopback-size in block-tc s (omega arith) n
+    pub loopback-tc-whole : {t : BlockTc} → (block_of s).tc ≡ Some t → 11 + 10 * num_at 2 (tc_part s t.at) 9 ≤ length (tc_part s t.at)
+    loopback-tc-whole h =
+        let l = loopback-size in
+        let a = block-tc-at s h in
+        rw a (block-tc s (omega arith) (rw a at (block-tc-some s h)))

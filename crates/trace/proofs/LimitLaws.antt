@@ -19,7 +19,10 @@ use Rattle.certificates.specs.Numbers.{round_max}
 use Rattle.trace.specs.Layout.{signers_max, qc_count, tc_round, tc_count, tc_part, tc_rounds, block_qc, timeout_qc, tc_body, tc_at, largest_high, highs_of}
 use Rattle.trace.specs.Form.{any_above}
 use Rattle.trace.specs.Limits.{counts_of, rounds_of, block_counts, block_rounds, empty_tc, limit_of}
-use Rattle.trace.specs.Fields.{vote_of, timeout_of, block_of, tc_round_of, tc_high_of}
+use Rattle.trace.specs.Fields.{vote_of, timeout_of, block_of, TcWithin}
+use Rattle.trace.specs.declared.events.BlockTc.{BlockTc}
+use Rattle.std.specs.Prelude.{Option, None, Some}
+use Rattle.trace.proofs.FieldLaws.{block-tc-at, block-tc-some, block-tc-round, block-tc-high}
 use Rattle.trace.specs.declared.events.Kind.{Kind}
 use Rattle.trace.specs.declared.events.Kind.TheVariants.{Propose, Vote, Timeout, Tc, Loopback}
 use Rattle.trace.proofs.Bounds.{none_above, largest-within}
@@ -112,32 +115,37 @@ module _ (s : List ℕ) where
     unfolding block_rounds block_of
     block-qc-round-le = (none_above round_max _ _ (none_above round_max _ _ block_within.rounds).1).0
 
-    pub block-tc-round-le : (block_of s).tc_round.0 ≤ round_max
-    unfolding tc_round_of block_of
-    block-tc-round-le = by-tc (eqb (tc_at s) 0) later
-      where
-        by-tc : (b : Bool) → any_above round_max (cond b [] (tc_rounds s (tc_at s))) ≡ false → cond b 0 (tc_round s (tc_at s)) ≤ round_max
-        by-tc true h = omega arith
-        by-tc false h = tc-own (tc_at s) h
+    -- the TC's rounds
+    tc-rounds : {t : BlockTc} → (block_of s).tc ≡ Some t → any_above round_max (tc_rounds s t.at) ≡ false
+    tc-rounds h =
+        let a = block-tc-at s h in
+        let n = rw a at (block-tc-some s h) in
+        rw a (rw (ne_eqb (tc_at s) 0 n) at later)
 
-    pub block-tc-high-le : (block_of s).tc_high.0 ≤ round_max
-    unfolding tc_high_of block_of
-    block-tc-high-le = by-tc (eqb (tc_at s) 0) later
+    pub block-tc-round-le : TcWithin (block_of s).tc
+    block-tc-round-le = cases (block_of s).tc refl
       where
-        by-tc : (b : Bool) → any_above round_max (cond b [] (tc_rounds s (tc_at s))) ≡ false → cond b 0 (largest_high (tc_part s (tc_at s))) ≤ round_max
-        by-tc true h = omega arith
-        by-tc false h = tc-high (tc_at s) h
+        cases : (o : Option BlockTc) → (block_of s).tc ≡ o → TcWithin o
+        cases None h = tt
+        cases (Some t) h = rw (block-tc-round s h) (tc-own t.at (tc-rounds h))
+
+    pub block-tc-high-le : {t : BlockTc} → (block_of s).tc ≡ Some t → t.high.0 ≤ round_max
+    block-tc-high-le {t} h = rw (block-tc-high s h) (tc-high t.at (tc-rounds h))
 
     pub block-qc-count-le : qc_count s block_qc ≤ signers_max
     unfolding block_counts
     block-qc-count-le = (none_above signers_max _ _ block_within.counts).0
 
-    pub block-tc-count-le : ((block_of s).tc ≡ 0 → ⊥) → tc_count s (block_of s).tc ≤ signers_max
-    unfolding block_counts block_of
-    block-tc-count-le n =
-        (none_above signers_max _ [] (rw (ne_eqb (tc_at s) 0 n) at (none_above signers_max _ _ block_within.counts).1)).0
+    pub block-tc-count-le : {t : BlockTc} → (block_of s).tc ≡ Some t → tc_count s t.at ≤ signers_max
+    unfolding block_counts
+    block-tc-count-le h =
+        let a = block-tc-at s h in
+        let n = rw a at (block-tc-some s h) in
+        rw a (none_above signers_max _ [] (rw (ne_eqb (tc_at s) 0 n) at (none_above signers_max _ _ block_within.counts).1)).0
 
   module _ (e : limit_of s Loopback ≡ 0) where
-    pub loopback-tc-full : ((block_of s).tc ≡ 0 → ⊥) → tc_count s (block_of s).tc ≡ 0 → ⊥
-    unfolding block_of
-    loopback-tc-full n = eqb-false _ _ (rw (ne_eqb (tc_at s) 0 n) at (limits s Loopback e).full)
+    pub loopback-tc-full : {t : BlockTc} → (block_of s).tc ≡ Some t → tc_count s t.at ≡ 0 → ⊥
+    loopback-tc-full h =
+        let a = block-tc-at s h in
+        let n = rw a at (block-tc-some s h) in
+        rw a (eqb-false _ _ (rw (ne_eqb (tc_at s) 0 n) at (limits s Loopback e).full))

@@ -16,7 +16,7 @@ ghost use Rattle.certificates.specs.Error.{number};
 ghost use Rattle.trace.specs.Layout.{signers_max, count_of, size_by, part_of, qc_part, tc_part, flag_at, tc_at, block_end, payload_of, tc_rounds, largest, largest_high, highs_of};
 ghost use Rattle.trace.specs.Form.{Numbered, size_of, in_range, is_formed, form_of, are_marks};
 ghost use Rattle.trace.specs.Limits.{empty_tc, bounded, limit_of};
-ghost use Rattle.trace.specs.Fields.{vote_of, timeout_of, block_of, tc_round_of, tc_high_of};
+ghost use Rattle.trace.specs.Fields.{vote_of, timeout_of, block_of};
 
 use crate::part::{after, byte_at, first};
 use crate::record::RECORD_MAX;
@@ -86,6 +86,16 @@ pub struct Timeout {
     pub qc_round: Round,
 }
 
+// The TC of a block.
+#[derive(Clone, Copy)]
+pub struct BlockTc {
+    // Where it starts in the record.
+    pub at: usize,
+    pub round: Round,
+    // The largest high round of its entries.
+    pub high: Round,
+}
+
 #[derive(Clone, Copy)]
 pub struct Block {
     pub digest: Hash,
@@ -94,11 +104,7 @@ pub struct Block {
     pub verdict: u8,
     pub qc_hash: Hash,
     pub qc_round: Round,
-    // Where the TC starts in the record: 0 where there is none, and then the two rounds are 0.
-    pub tc: usize,
-    pub tc_round: Round,
-    // The largest high round of the TC's entries.
-    pub tc_high: Round,
+    pub tc: Option<BlockTc>,
 }
 
 // ---- parts
@@ -403,11 +409,10 @@ pub fn timeout_of(record: &[u8]) -> Timeout
     }
 }
 
-#[tactic(auto, unfolding(crate::specs::Fields::block_of, crate::specs::Fields::tc_round_of, crate::specs::Fields::tc_high_of))]
+#[tactic(auto, unfolding(crate::specs::Fields::block_of, crate::specs::Fields::block_tc_of))]
 pub fn block_of(record: &[u8]) -> Block
     ensures { result ≡ block_of «record».now }
 {
-    let tc = tc_at(record);
     Block {
         digest: hash_at(record, 2),
         author: Place(u16_at(record, 34)),
@@ -415,8 +420,10 @@ pub fn block_of(record: &[u8]) -> Block
         verdict: byte_at(record, 44),
         qc_hash: hash_at(record, BLOCK_QC),
         qc_round: Round(u64_at(record, 77)),
-        tc: tc.unwrap_or(0),
-        tc_round: tc.map_or(Round(0), |at| Round(u64_at(record, at))),
-        tc_high: tc.map_or(Round(0), |at| largest_high(tc_part(record, at))),
+        tc: tc_at(record).map(|at| BlockTc {
+            at,
+            round: Round(u64_at(record, at)),
+            high: largest_high(tc_part(record, at)),
+        }),
     }
 }

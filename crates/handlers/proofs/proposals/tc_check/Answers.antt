@@ -3,8 +3,8 @@ use borrow.Author.Rules.{rules}
 use Rattle.handlers.proofs.ProposalLaws.{tc-none, tc-passed, tc-refused}
 use Rattle.handlers.proofs.proposals.tc_check.Goals as goal
 
-pub returns-then-b-eq0 : goal.returns-then-b-eq0
-returns-then-b-eq0 c = search (rules, tc-none)
+pub returns-in_default : goal.returns-in_default
+returns-in_default c = search (rules, tc-none)
 
 pub returns-in-Ok : goal.returns-in-Ok
 returns-in-Ok c = search (rules, tc-passed)
