@@ -5,11 +5,10 @@ use mathlib.Core.Bool.{Bool, true, false, cond, true≢false}
 use mathlib.Core.List.{List, [], ◌++◌}
 use mathlib.Core.Path.{◌≡◌, refl, sym, ◌∙◌, ap}
 use native.Mathlib.Omega.{arith}
-use borrow.Author.Tests.{ne_eqb, eqb-true, eqb-false, leb-true}
+use borrow.Author.Tests.{leb-true}
 use lib.Dec.{eqb, ltb, leb}
 use lib.ListN.{length, drop}
 use Rattle.handlers.specs.Votes.{voting_most}
-use Rattle.certificates.specs.declared.numbers.Round.{Round}
 use Rattle.trace.specs.declared.events.Block.{Block}
 use Rattle.trace.specs.Fields.{block_of}
 use Rattle.outputs.specs.Records.{Rec, enc_all}
@@ -27,7 +26,6 @@ use Rattle.replica.specs.declared.started.Seat.{Seat}
 use Rattle.replica.specs.declared.stages.Begun.{Begun}
 use Rattle.replica.specs.declared.stages.Stepped.{Stepped}
 use Rattle.replica.specs.Started.{members_of, slots_max, room_for, roomy}
-use Rattle.replica.specs.Blocks.{slot_for, work_for}
 use Rattle.replica.specs.Step.{World, Result, Left, laid, world, left_by, stepped}
 use Rattle.replica.specs.declared.stages.Does.{Does}
 use Rattle.certificates.specs.Error.{number}

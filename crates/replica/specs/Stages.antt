@@ -30,7 +30,6 @@ use Rattle.handlers.specs.Sound.{Sound}
 use Rattle.handlers.specs.Votes.{handled_vote, voting, voting_most}
 use Rattle.handlers.specs.Timeouts.{handled_timeout, handled_tc, handled_tick}
 use Rattle.handlers.specs.Proposals.{Proposal, proposal_of}
-use Rattle.certificates.specs.Numbers.{zero_hash}
 use Rattle.synchronizer.specs.declared.table.Slot.{Slot}
 use Rattle.synchronizer.specs.declared.settle.Task.{Task}
 use Rattle.synchronizer.specs.declared.settle.Work.{Work}
