@@ -13,7 +13,7 @@ use Rattle.certificates.specs.declared.error.AuthorError.{AuthorError}
 use Rattle.certificates.specs.declared.error.AuthorError.TheVariants as author
 use Rattle.certificates.specs.declared.error.Refusal.{Refusal}
 use Rattle.certificates.specs.declared.error.Refusal.TheVariants as refusal
-use Rattle.certificates.specs.Error.{done, code, number, number_of, author_number, setup_number}
+use Rattle.certificates.specs.Error.{done, code, number_of, author_number, setup_number}
 
 pub number_same : {r : ℕ} (c : Result Signers CertificateError) {d : Result Signers CertificateError} (quorum : ℕ) → r ≡ number_of c quorum → c ≡ d → r ≡ number_of d quorum
 number_same c quorum e f = e ∙ ap (λ (x : Result Signers CertificateError). number_of x quorum) f

@@ -1,8 +1,7 @@
 // The handlers of core.rs that need no table of blocks.
 //
 // `votes` has VOTE and the vote for a block, `timeouts` TIMEOUT, TC and TICK, `proposals` PROPOSE up
-// to its payload. Each takes the committee, the own place and the quorum, the state, and the lent
-// tallies and output.
+// to its payload. Each takes the committee, the state, and the lent tallies and output.
 #![tactic(auto)]
 
 mod checks;

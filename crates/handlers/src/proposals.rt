@@ -1,6 +1,5 @@
 // PROPOSE up to its payload: handle_proposal.
 ghost use Rattle.std.specs.Prelude.{◌≡◌, ◌+◌, ◌≤◌, length};
-ghost use Rattle.certificates.specs.Config.{quorum_of};
 ghost use Rattle.certificates.specs.Error.{number};
 ghost use Rattle.certificates.specs.Numbers.{round_max};
 ghost use Rattle.aggregator.specs.Tallies.{votes_length, timeouts_length};
@@ -10,10 +9,11 @@ ghost use Rattle.moves.specs.Outcome.{Did};
 ghost use Rattle.handlers.specs.Sound.{signers_of, Answers};
 ghost use Rattle.handlers.specs.Proposals.{leader_check, qc_found, tc_number, proposal_check, taken, taken_most, proposal_of, Proposes, payload_as};
 
+use certificates::committee::Committee;
 use certificates::error::{Answer, Refusal};
 use certificates::leader::get_leader;
 use certificates::messages::{QC, check_author, check_embedded_qc, check_tc};
-use certificates::numbers::{Signers, Stake};
+use certificates::numbers::Signers;
 use moves::rounds::{advance_round, process_qc};
 use moves::state::{Core, Moved, Ran};
 use trace::events::{BLOCK_QC, Block, qc_part, tc_part};
@@ -36,28 +36,31 @@ fn leader_check(members: &[u32], b: Block) -> Answer
 }
 
 // The block's TC, if it has one.
-fn tc_check(members: &[u32], need: Stake, b: Block, input: &[u8]) -> Answer
-    requires { need.0 ≡ quorum_of members.now }
-    ensures { number result ≡ tc_number members.now b input.now }
+fn tc_check(committee: Committee, b: Block, input: &[u8]) -> Answer
+    ensures { number result ≡ tc_number committee.entry.members.stakes.now b input.now }
 {
     let Some(tc) = b.tc else {
         return Ok(());
     };
-    match check_tc(members, need, tc_part(input, tc.at)) {
+    match check_tc(
+        committee.members.stakes,
+        committee.need,
+        tc_part(input, tc.at),
+    ) {
         Ok(_) => Ok(()),
         Err(e) => Err(e.refusal(Refusal::TcRequiresQuorum)),
     }
 }
 
 // The checks in 01's order. b is the record's block; its certificates are checked where they lie.
-fn check_proposal(members: &[u32], need: Stake, b: Block, input: &[u8]) -> Result<Signers, Refusal>
-    requires { need.0 ≡ quorum_of members.now }
-    ensures { Answers (proposal_check members.now b input.now (qc_found members.now input.now)) (signers_of (qc_found members.now input.now)) result }
+fn check_proposal(committee: Committee, b: Block, input: &[u8]) -> Result<Signers, Refusal>
+    ensures { Answers (proposal_check committee.entry.members.stakes.now b input.now (qc_found committee.entry.members.stakes.now input.now)) (signers_of (qc_found committee.entry.members.stakes.now input.now)) result }
 {
-    leader_check(members, b)?;
-    match check_embedded_qc(members, need, qc_part(input, BLOCK_QC)) {
+    let stakes = committee.members.stakes;
+    leader_check(stakes, b)?;
+    match check_embedded_qc(stakes, committee.need, qc_part(input, BLOCK_QC)) {
         Ok(signers) => {
-            tc_check(members, need, b, input)?;
+            tc_check(committee, b, input)?;
             Ok(signers)
         }
         Err(e) => Err(e.refusal(Refusal::QcRequiresQuorum)),
@@ -108,8 +111,7 @@ fn by_payload(a: Moved, payload: u8) -> Ran
 // the certificates are taken, then the payload decides. A check that is not passed leaves everything as it
 // was.
 pub fn handle_proposal(
-    members: &[u32],
-    need: Stake,
+    committee: Committee,
     core: Core,
     votes: &mut [u64],
     timeouts: &mut [u64],
@@ -118,10 +120,10 @@ pub fn handle_proposal(
     b: Block,
     payload: u8,
 ) -> Ran
-    requires { (need.0 ≡ quorum_of members.now) × (b.qc_round.0 ≤ round_max) × TcWithin b.tc × (length votes.old ≡ votes_length) × (length timeouts.old ≡ timeouts_length) × (taken_most ≤ length out.old) }
-    ensures { Proposes taken_most (proposal_of members.now (whole core votes.old timeouts.old) b input.now payload) out.old 0 result votes.new timeouts.new out.new }
+    requires { (b.qc_round.0 ≤ round_max) × TcWithin b.tc × (length votes.old ≡ votes_length) × (length timeouts.old ≡ timeouts_length) × (taken_most ≤ length out.old) }
+    ensures { Proposes taken_most (proposal_of committee.entry.members.stakes.now (whole core votes.old timeouts.old) b input.now payload) out.old 0 result votes.new timeouts.new out.new }
 {
-    match check_proposal(members, need, b, input) {
+    match check_proposal(committee, b, input) {
         Ok(signers) => by_payload(
             take_certificates(core, votes, timeouts, out, b, signers),
             payload,

@@ -1,6 +1,6 @@
 // TIMEOUT, TC and TICK: handle_timeout, handle_tc, local_timeout_round.
 ghost use Rattle.std.specs.Prelude.{◌≡◌, ◌+◌, ◌≤◌, ◌<◌, length};
-ghost use Rattle.certificates.specs.Config.{stake_of, quorum_of};
+ghost use Rattle.certificates.specs.Config.{stake_of};
 ghost use Rattle.certificates.specs.Error.{number};
 ghost use Rattle.certificates.specs.Messages.{tc_check};
 ghost use Rattle.certificates.specs.Numbers.{round_max};
@@ -14,10 +14,11 @@ ghost use Rattle.handlers.specs.Timeouts.{handle_timeout_most, handle_tc_most, t
 
 use crate::checks::YES;
 use aggregator::tallies::add_timeout;
+use certificates::committee::{Committee, Members};
 use certificates::config::{MEMBERS_MAX, stake};
 use certificates::error::{Answer, Refusal};
 use certificates::messages::{QC, check_author, check_embedded_qc, check_tc};
-use certificates::numbers::{Place, ROUND_MAX, Round, Signers, Stake};
+use certificates::numbers::{Place, ROUND_MAX, Round, Signers};
 use moves::rounds::{advance_round, generate_proposal_with, process_qc, time_out};
 use moves::state::{Core, Moved, Ran};
 use moves::tallies::added_refusal;
@@ -37,17 +38,16 @@ fn timeout_check(members: &[u32], current: Round, t: Timeout) -> Answer
 
 // That, then its QC, which is checked where it lies.
 fn check_timeout(
-    members: &[u32],
-    need: Stake,
+    committee: Committee,
     current: Round,
     input: &[u8],
     t: Timeout,
 ) -> Result<Signers, Refusal>
-    requires { need.0 ≡ quorum_of members.now }
-    ensures { Answers (timeout_number members.now current.0 t (timeout_qc_found members.now input.now)) (signers_of (timeout_qc_found members.now input.now)) result }
+    ensures { Answers (timeout_number committee.entry.members.stakes.now current.0 t (timeout_qc_found committee.entry.members.stakes.now input.now)) (signers_of (timeout_qc_found committee.entry.members.stakes.now input.now)) result }
 {
-    timeout_check(members, current, t)?;
-    match check_embedded_qc(members, need, qc_part(input, TIMEOUT_QC)) {
+    let stakes = committee.members.stakes;
+    timeout_check(stakes, current, t)?;
+    match check_embedded_qc(stakes, committee.need, qc_part(input, TIMEOUT_QC)) {
         Ok(signers) => Ok(signers),
         Err(e) => Err(e.refusal(Refusal::QcRequiresQuorum)),
     }
@@ -56,9 +56,7 @@ fn check_timeout(
 // A timeout of a member counted in its tally; at the quorum its TC is written and taken. The state is
 // handed on only at the quorum, so that no other timeout copies it.
 fn count_timeout(
-    members: &[u32],
-    own: Place,
-    need: Stake,
+    committee: Committee,
     core: Core,
     votes: &mut [u64],
     timeouts: &mut [u64],
@@ -68,18 +66,17 @@ fn count_timeout(
     author: Place,
     high: Round,
 ) -> Ran
-    requires { Sound members.now own.0 votes.old timeouts.old × (author.0 < length members.now) × (round.0 ≤ round_max) × (at + time_out_most ≤ length out.old) }
-    ensures { Reached time_out_most (timeout_tallied members.now own.0 need.0 (whole core votes.old timeouts.old) round.0 author.0 (stake_of members.now author.0) high.0) out.old at result votes.new timeouts.new out.new }
+    requires { Sound committee.members.stakes.now committee.members.own.0 votes.old timeouts.old × (author.0 < length committee.members.stakes.now) × (round.0 ≤ round_max) × (at + time_out_most ≤ length out.old) }
+    ensures { Reached time_out_most (timeout_tallied committee.entry.members.stakes.now committee.entry.members.own.0 committee.entry.need.0 (whole core votes.old timeouts.old) round.0 author.0 (stake_of committee.entry.members.stakes.now author.0) high.0) out.old at result votes.new timeouts.new out.new }
 {
-    let held = stake(members, author);
-    match add_timeout(timeouts, round, author, held, need, high) {
+    let members = committee.members;
+    let held = stake(members.stakes, author);
+    match add_timeout(timeouts, round, author, held, committee.need, high) {
         Ok(added) => match added {
             Some(quorum) => {
                 let row = quorum.row;
                 let names = quorum.signers;
-                let m = time_out(
-                    members, own, core, votes, timeouts, out, at, round, row, names,
-                );
+                let m = time_out(members, core, votes, timeouts, out, at, round, row, names);
                 Ran {
                     answer: Ok(()),
                     core: m.core,
@@ -102,9 +99,7 @@ fn count_timeout(
 
 // The QC is taken; then the timeout is counted.
 fn take_timeout(
-    members: &[u32],
-    own: Place,
-    need: Stake,
+    committee: Committee,
     core: Core,
     votes: &mut [u64],
     timeouts: &mut [u64],
@@ -112,8 +107,8 @@ fn take_timeout(
     t: Timeout,
     signers: Signers,
 ) -> Ran
-    requires { Sound members.now own.0 votes.old timeouts.old × (need.0 ≡ quorum_of members.now) × (t.author.0 < length members.now) × (t.round.0 ≤ round_max) × (t.qc_round.0 ≤ round_max) × (handle_timeout_most ≤ length out.old) }
-    ensures { Reached handle_timeout_most (timeout_taken members.now own.0 (whole core votes.old timeouts.old) t signers) out.old 0 result votes.new timeouts.new out.new }
+    requires { Sound committee.members.stakes.now committee.members.own.0 votes.old timeouts.old × (t.author.0 < length committee.members.stakes.now) × (t.round.0 ≤ round_max) × (t.qc_round.0 ≤ round_max) × (handle_timeout_most ≤ length out.old) }
+    ensures { Reached handle_timeout_most (timeout_taken committee.entry.members.stakes.now committee.entry.members.own.0 (whole core votes.old timeouts.old) t signers) out.old 0 result votes.new timeouts.new out.new }
 {
     let qc = QC {
         hash: t.qc_hash,
@@ -122,15 +117,13 @@ fn take_timeout(
     };
     let a = process_qc(core, votes, timeouts, out, 0, qc);
     count_timeout(
-        members, own, need, a.core, votes, timeouts, out, a.at, t.round, t.author, qc.round,
+        committee, a.core, votes, timeouts, out, a.at, t.round, t.author, qc.round,
     )
 }
 
 // t is what the record says.
 pub fn handle_timeout(
-    members: &[u32],
-    own: Place,
-    need: Stake,
+    committee: Committee,
     core: Core,
     votes: &mut [u64],
     timeouts: &mut [u64],
@@ -138,11 +131,11 @@ pub fn handle_timeout(
     input: &[u8],
     t: Timeout,
 ) -> Ran
-    requires { Sound members.now own.0 votes.old timeouts.old × (need.0 ≡ quorum_of members.now) × (t.round.0 ≤ round_max) × (t.qc_round.0 ≤ round_max) × (handle_timeout_most ≤ length out.old) }
-    ensures { Reached handle_timeout_most (handled_timeout members.now own.0 (whole core votes.old timeouts.old) t input.now) out.old 0 result votes.new timeouts.new out.new }
+    requires { Sound committee.members.stakes.now committee.members.own.0 votes.old timeouts.old × (t.round.0 ≤ round_max) × (t.qc_round.0 ≤ round_max) × (handle_timeout_most ≤ length out.old) }
+    ensures { Reached handle_timeout_most (handled_timeout committee.entry.members.stakes.now committee.entry.members.own.0 (whole core votes.old timeouts.old) t input.now) out.old 0 result votes.new timeouts.new out.new }
 {
-    match check_timeout(members, need, core.round, input, t) {
-        Ok(signers) => { take_timeout(members, own, need, core, votes, timeouts, out, t, signers) }
+    match check_timeout(committee, core.round, input, t) {
+        Ok(signers) => { take_timeout(committee, core, votes, timeouts, out, t, signers) }
         Err(refusal) => Ran {
             answer: Err(refusal),
             core,
@@ -153,8 +146,7 @@ pub fn handle_timeout(
 
 // Advance, and MAKE with the TC if the own place leads.
 fn take_tc(
-    members: &[u32],
-    own: Place,
+    members: Members,
     core: Core,
     votes: &mut [u64],
     timeouts: &mut [u64],
@@ -163,27 +155,26 @@ fn take_tc(
     round: Round,
     names: Signers,
 ) -> Moved
-    requires { Sound members.now own.0 votes.old timeouts.old × (round.0 ≤ round_max) × (handle_tc_most ≤ length out.old) }
-    ensures { Did handle_tc_most (tc_taken members.now own.0 (whole core votes.old timeouts.old) round.0 names part.now) out.old 0 result.core votes.new timeouts.new out.new result.at }
+    requires { Sound members.stakes.now members.own.0 votes.old timeouts.old × (round.0 ≤ round_max) × (handle_tc_most ≤ length out.old) }
+    ensures { Did handle_tc_most (tc_taken members.entry.stakes.now members.entry.own.0 (whole core votes.old timeouts.old) round.0 names part.now) out.old 0 result.core votes.new timeouts.new out.new result.at }
 {
     let mut a = advance_round(core, votes, timeouts, out, 0, round);
     let mut highs = [0u64; MEMBERS_MAX];
     highs_of(&mut highs, part);
-    a.at = generate_proposal_with(members, own, a.core, &highs, out, a.at, round, names);
+    a.at = generate_proposal_with(members, a.core, &highs, out, a.at, round, names);
     a
 }
 
 // The TC, which is checked where it lies, and then STALE, as in the Rust.
 fn check_received_tc(
-    members: &[u32],
-    need: Stake,
+    committee: Committee,
     current: Round,
     part: &[u8],
     round: Round,
 ) -> Result<Signers, Refusal>
-    ensures { Answers (tc_event_number current.0 round.0 (tc_check members.now need.0 part.now)) (signers_of (tc_check members.now need.0 part.now)) result }
+    ensures { Answers (tc_event_number current.0 round.0 (tc_check committee.entry.members.stakes.now committee.entry.need.0 part.now)) (signers_of (tc_check committee.entry.members.stakes.now committee.entry.need.0 part.now)) result }
 {
-    match check_tc(members, need, part) {
+    match check_tc(committee.members.stakes, committee.need, part) {
         Ok(_) if round.0 < current.0 => Err(Refusal::Stale),
         Ok(names) => Ok(names),
         Err(e) => Err(e.refusal(Refusal::TcRequiresQuorum)),
@@ -191,9 +182,7 @@ fn check_received_tc(
 }
 
 pub fn handle_tc(
-    members: &[u32],
-    own: Place,
-    need: Stake,
+    committee: Committee,
     core: Core,
     votes: &mut [u64],
     timeouts: &mut [u64],
@@ -201,13 +190,14 @@ pub fn handle_tc(
     input: &[u8],
     round: Round,
 ) -> Ran
-    requires { Sound members.now own.0 votes.old timeouts.old × (need.0 ≡ quorum_of members.now) × (round.0 ≤ round_max) × (handle_tc_most ≤ length out.old) }
-    ensures { Reached handle_tc_most (handled_tc members.now own.0 (whole core votes.old timeouts.old) round.0 input.now) out.old 0 result votes.new timeouts.new out.new }
+    requires { Sound committee.members.stakes.now committee.members.own.0 votes.old timeouts.old × (round.0 ≤ round_max) × (handle_tc_most ≤ length out.old) }
+    ensures { Reached handle_tc_most (handled_tc committee.entry.members.stakes.now committee.entry.members.own.0 (whole core votes.old timeouts.old) round.0 input.now) out.old 0 result votes.new timeouts.new out.new }
 {
     let part = tc_part(input, TC_BODY);
-    match check_received_tc(members, need, core.round, part, round) {
+    match check_received_tc(committee, core.round, part, round) {
         Ok(names) => {
-            let a = take_tc(members, own, core, votes, timeouts, out, part, round, names);
+            let members = committee.members;
+            let a = take_tc(members, core, votes, timeouts, out, part, round, names);
             Ran {
                 answer: Ok(()),
                 core: a.core,
@@ -245,23 +235,20 @@ fn tick(core: Core, out: &mut [u8], at: usize) -> Moved
 
 // The own timeout, verdict yes: 22 where the own stake is 0.
 fn own_timeout(
-    members: &[u32],
-    own: Place,
-    need: Stake,
+    committee: Committee,
     core: Core,
     votes: &mut [u64],
     timeouts: &mut [u64],
     out: &mut [u8],
     at: usize,
 ) -> Ran
-    requires { Sound members.now own.0 votes.old timeouts.old × (need.0 ≡ quorum_of members.now) × (core.round.0 ≤ round_max) × (at + time_out_most ≤ length out.old) }
-    ensures { Reached time_out_most (own_timeout members.now own.0 (whole core votes.old timeouts.old)) out.old at result votes.new timeouts.new out.new }
+    requires { Sound committee.members.stakes.now committee.members.own.0 votes.old timeouts.old × (core.round.0 ≤ round_max) × (at + time_out_most ≤ length out.old) }
+    ensures { Reached time_out_most (own_timeout committee.entry.members.stakes.now committee.entry.members.own.0 (whole core votes.old timeouts.old)) out.old at result votes.new timeouts.new out.new }
 {
-    match check_author(members, own, YES) {
+    let own = committee.members.own;
+    match check_author(committee.members.stakes, own, YES) {
         Ok(_) => count_timeout(
-            members,
-            own,
-            need,
+            committee,
             core,
             votes,
             timeouts,
@@ -280,16 +267,14 @@ fn own_timeout(
 }
 
 pub fn local_timeout_round(
-    members: &[u32],
-    own: Place,
-    need: Stake,
+    committee: Committee,
     core: Core,
     votes: &mut [u64],
     timeouts: &mut [u64],
     out: &mut [u8],
 ) -> Ran
-    requires { Sound members.now own.0 votes.old timeouts.old × (need.0 ≡ quorum_of members.now) × (local_timeout_most ≤ length out.old) }
-    ensures { Reached local_timeout_most (handled_tick members.now own.0 (whole core votes.old timeouts.old)) out.old 0 result votes.new timeouts.new out.new }
+    requires { Sound committee.members.stakes.now committee.members.own.0 votes.old timeouts.old × (local_timeout_most ≤ length out.old) }
+    ensures { Reached local_timeout_most (handled_tick committee.entry.members.stakes.now committee.entry.members.own.0 (whole core votes.old timeouts.old)) out.old 0 result votes.new timeouts.new out.new }
 {
     if ROUND_MAX < core.round.0 {
         return Ran {
@@ -299,5 +284,5 @@ pub fn local_timeout_round(
         };
     }
     let a = tick(core, out, 0);
-    own_timeout(members, own, need, a.core, votes, timeouts, out, a.at)
+    own_timeout(committee, a.core, votes, timeouts, out, a.at)
 }

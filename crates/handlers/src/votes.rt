@@ -1,6 +1,6 @@
 // VOTE, and the vote for a block: handle_vote, make_vote.
 ghost use Rattle.std.specs.Prelude.{◌≡◌, ◌+◌, ◌≤◌, ◌<◌, length};
-ghost use Rattle.certificates.specs.Config.{stake_of, quorum_of};
+ghost use Rattle.certificates.specs.Config.{stake_of};
 ghost use Rattle.certificates.specs.Error.{number};
 ghost use Rattle.certificates.specs.Numbers.{round_max};
 ghost use Rattle.trace.specs.Fields.{TcWithin};
@@ -13,11 +13,12 @@ ghost use Rattle.handlers.specs.Votes.{vote_check, handled_vote, extends, may_vo
 
 use crate::checks::YES;
 use aggregator::tallies::add_vote;
+use certificates::committee::Committee;
 use certificates::config::stake;
 use certificates::error::{Answer, Refusal};
 use certificates::leader::get_leader;
 use certificates::messages::{QC, check_author};
-use certificates::numbers::{Hash, Place, Round, Stake};
+use certificates::numbers::{Hash, Place, Round};
 use moves::rounds::certify;
 use moves::state::{Core, Ran};
 use moves::tallies::added_refusal;
@@ -38,9 +39,7 @@ fn vote_check(members: &[u32], current: Round, v: Vote) -> Answer
 // A vote of a member counted in its tally; at the quorum its QC is taken. The state is handed on only
 // at the quorum, so that no other vote copies it.
 fn count_vote(
-    members: &[u32],
-    own: Place,
-    need: Stake,
+    committee: Committee,
     core: Core,
     votes: &mut [u64],
     timeouts: &mut [u64],
@@ -50,11 +49,12 @@ fn count_vote(
     round: Round,
     author: Place,
 ) -> Ran
-    requires { Sound members.now own.0 votes.old timeouts.old × (author.0 < length members.now) × (round.0 ≤ round_max) × (at + certify_most ≤ length out.old) }
-    ensures { Reached certify_most (vote_tallied members.now own.0 need.0 (whole core votes.old timeouts.old) hash round.0 author.0 (stake_of members.now author.0)) out.old at result votes.new timeouts.new out.new }
+    requires { Sound committee.members.stakes.now committee.members.own.0 votes.old timeouts.old × (author.0 < length committee.members.stakes.now) × (round.0 ≤ round_max) × (at + certify_most ≤ length out.old) }
+    ensures { Reached certify_most (vote_tallied committee.entry.members.stakes.now committee.entry.members.own.0 committee.entry.need.0 (whole core votes.old timeouts.old) hash round.0 author.0 (stake_of committee.entry.members.stakes.now author.0)) out.old at result votes.new timeouts.new out.new }
 {
-    let held = stake(members, author);
-    match add_vote(votes, round, hash, author, held, need) {
+    let members = committee.members;
+    let held = stake(members.stakes, author);
+    match add_vote(votes, round, hash, author, held, committee.need) {
         Ok(added) => match added {
             Some(quorum) => {
                 let qc = QC {
@@ -62,7 +62,7 @@ fn count_vote(
                     round,
                     signers: quorum.signers,
                 };
-                let m = certify(members, own, core, votes, timeouts, out, at, qc);
+                let m = certify(members, core, votes, timeouts, out, at, qc);
                 Ran {
                     answer: Ok(()),
                     core: m.core,
@@ -85,21 +85,19 @@ fn count_vote(
 
 // A vote that passes the checks is counted. Any other is refused, and leaves everything as it was.
 pub fn handle_vote(
-    members: &[u32],
-    own: Place,
-    need: Stake,
+    committee: Committee,
     core: Core,
     votes: &mut [u64],
     timeouts: &mut [u64],
     out: &mut [u8],
     v: Vote,
 ) -> Ran
-    requires { Sound members.now own.0 votes.old timeouts.old × (need.0 ≡ quorum_of members.now) × (v.round.0 ≤ round_max) × (certify_most ≤ length out.old) }
-    ensures { Reached certify_most (handled_vote members.now own.0 (whole core votes.old timeouts.old) v) out.old 0 result votes.new timeouts.new out.new }
+    requires { Sound committee.members.stakes.now committee.members.own.0 votes.old timeouts.old × (v.round.0 ≤ round_max) × (certify_most ≤ length out.old) }
+    ensures { Reached certify_most (handled_vote committee.entry.members.stakes.now committee.entry.members.own.0 (whole core votes.old timeouts.old) v) out.old 0 result votes.new timeouts.new out.new }
 {
-    match vote_check(members, core.round, v) {
+    match vote_check(committee.members.stakes, core.round, v) {
         Ok(()) => count_vote(
-            members, own, need, core, votes, timeouts, out, 0, v.hash, v.round, v.author,
+            committee, core, votes, timeouts, out, 0, v.hash, v.round, v.author,
         ),
         Err(refusal) => Ran {
             answer: Err(refusal),
@@ -130,9 +128,7 @@ fn may_vote(core: Core, b: Block) -> bool
 
 // VOTE's steps from the author on for the own vote, verdict yes.
 fn own_vote(
-    members: &[u32],
-    own: Place,
-    need: Stake,
+    committee: Committee,
     core: Core,
     votes: &mut [u64],
     timeouts: &mut [u64],
@@ -140,12 +136,13 @@ fn own_vote(
     at: usize,
     b: Block,
 ) -> Ran
-    requires { Sound members.now own.0 votes.old timeouts.old × (need.0 ≡ quorum_of members.now) × (b.round.0 ≤ round_max) × (at + certify_most ≤ length out.old) }
-    ensures { Reached certify_most (own_vote members.now own.0 b (whole core votes.old timeouts.old)) out.old at result votes.new timeouts.new out.new }
+    requires { Sound committee.members.stakes.now committee.members.own.0 votes.old timeouts.old × (b.round.0 ≤ round_max) × (at + certify_most ≤ length out.old) }
+    ensures { Reached certify_most (own_vote committee.entry.members.stakes.now committee.entry.members.own.0 b (whole core votes.old timeouts.old)) out.old at result votes.new timeouts.new out.new }
 {
-    match check_author(members, own, YES) {
+    let own = committee.members.own;
+    match check_author(committee.members.stakes, own, YES) {
         Ok(_) => count_vote(
-            members, own, need, core, votes, timeouts, out, at, b.digest, b.round, own,
+            committee, core, votes, timeouts, out, at, b.digest, b.round, own,
         ),
         Err(e) => Ran {
             answer: Err(Refusal::from(e)),
@@ -158,9 +155,7 @@ fn own_vote(
 // Last voted becomes the block's round, and VOTE is written to the next round's leader. Where that is
 // the own place, the vote is also counted. The Rust sends none to itself (DIFFERENCES, own vote).
 fn send_vote(
-    members: &[u32],
-    own: Place,
-    need: Stake,
+    committee: Committee,
     core: Core,
     votes: &mut [u64],
     timeouts: &mut [u64],
@@ -168,15 +163,16 @@ fn send_vote(
     at: usize,
     b: Block,
 ) -> Ran
-    requires { Sound members.now own.0 votes.old timeouts.old × (need.0 ≡ quorum_of members.now) × (b.round.0 ≤ round_max) × (at + voting_most ≤ length out.old) }
-    ensures { Reached voting_most (voted members.now own.0 b (whole core votes.old timeouts.old)) out.old at result votes.new timeouts.new out.new }
+    requires { Sound committee.members.stakes.now committee.members.own.0 votes.old timeouts.old × (b.round.0 ≤ round_max) × (at + voting_most ≤ length out.old) }
+    ensures { Reached voting_most (voted committee.entry.members.stakes.now committee.entry.members.own.0 b (whole core votes.old timeouts.old)) out.old at result votes.new timeouts.new out.new }
 {
+    let own = committee.members.own;
     let mut n = core;
     n.last_voted_round = b.round;
-    let next_leader = get_leader(members, Round(b.round.0 + 1));
+    let next_leader = get_leader(committee.members.stakes, Round(b.round.0 + 1));
     let end = put_vote(out, at, next_leader, b.digest, b.round);
     if next_leader.0 == own.0 {
-        return own_vote(members, own, need, n, votes, timeouts, out, end, b);
+        return own_vote(committee, n, votes, timeouts, out, end, b);
     }
     Ran {
         answer: Ok(()),
@@ -187,9 +183,7 @@ fn send_vote(
 
 // A vote for the block, if its round is the current one and the rules allow it. Else nothing is done.
 pub fn make_vote(
-    members: &[u32],
-    own: Place,
-    need: Stake,
+    committee: Committee,
     core: Core,
     votes: &mut [u64],
     timeouts: &mut [u64],
@@ -197,12 +191,12 @@ pub fn make_vote(
     at: usize,
     b: Block,
 ) -> Ran
-    requires { Sound members.now own.0 votes.old timeouts.old × (need.0 ≡ quorum_of members.now) × (b.round.0 ≤ round_max) × (b.qc_round.0 ≤ round_max) × TcWithin b.tc × (at + voting_most ≤ length out.old) }
-    ensures { Reached voting_most (voting members.now own.0 b (whole core votes.old timeouts.old)) out.old at result votes.new timeouts.new out.new }
+    requires { Sound committee.members.stakes.now committee.members.own.0 votes.old timeouts.old × (b.round.0 ≤ round_max) × (b.qc_round.0 ≤ round_max) × TcWithin b.tc × (at + voting_most ≤ length out.old) }
+    ensures { Reached voting_most (voting committee.entry.members.stakes.now committee.entry.members.own.0 b (whole core votes.old timeouts.old)) out.old at result votes.new timeouts.new out.new }
 {
     if b.round.0 == core.round.0 {
         if may_vote(core, b) {
-            return send_vote(members, own, need, core, votes, timeouts, out, at, b);
+            return send_vote(committee, core, votes, timeouts, out, at, b);
         }
         return Ran {
             answer: Ok(()),

@@ -146,10 +146,16 @@ module _ (seat : Seat) (stakes : List ℕ) (core : Core) (votes timeouts r out :
 
           -- what `handle` asks for
           pub handle-needs : {m : List ℕ} {u : Unit} → t ≡ true → limit ≡ Ok u → m ≡ members_of seat stakes
-              → Sound m seat.own.0 votes timeouts × (need.0 ≡ quorum_of m) × (limit_of r k ≡ 0) × (first_most ≤ length out)
+              → Sound m seat.own.0 votes timeouts × (limit_of r k ≡ 0) × (first_most ≤ length out)
           handle-needs h n w =
               let y = started-ready seat stakes votes timeouts total s in
-              (rw w y.sound, rw w (quorum-total (members_of seat stakes) y.total q), answer-yes l n, omega (arith, roomy-has slots (length out) (sym e ∙ h)))
+              (rw w y.sound, answer-yes l n, omega (arith, roomy-has slots (length out) (sym e ∙ h)))
+
+-- the quorum of a committee that started
+pub quorum-ready : (seat : Seat) (stakes votes timeouts : List ℕ) {total need : Stake} → started_of seat stakes votes timeouts ≡ Some total → need.0 ≡ quorum_from total.0
+    → {m : List ℕ} → m ≡ members_of seat stakes → need.0 ≡ quorum_of m
+quorum-ready seat stakes votes timeouts {total} s q w =
+    rw w (quorum-total (members_of seat stakes) (started-ready seat stakes votes timeouts total s).total q)
 
 -- ---- the handlers, by the kind of the record
 
@@ -372,33 +378,33 @@ filled r stakes votes timeouts b s v t = record { members = rw (← b) s; no-vot
 
 -- ---- what the handlers ask for
 
-module _ {m votes timeouts : List ℕ} {own need : ℕ} (r : List ℕ) (out : ℕ) (s : Sound m own votes timeouts) (q : need ≡ quorum_of m) (h : first_most ≤ out) where
+module _ {m votes timeouts : List ℕ} {own : ℕ} (r : List ℕ) (out : ℕ) (s : Sound m own votes timeouts) (h : first_most ≤ out) where
   pub propose-needs : {b : Block} → b ≡ block_of r → limit_of r Kind.Propose ≡ 0
-      → (need ≡ quorum_of m) × (b.qc_round.0 ≤ round_max) × TcWithin b.tc × (length votes ≡ votes_length) × (length timeouts ≡ timeouts_length) × (8 ≤ out)
-  propose-needs e l = (q, rw e (block-qc-round-le r l), rw e (block-tc-round-le r l), s.long, s.wide, omega arith)
+      → (b.qc_round.0 ≤ round_max) × TcWithin b.tc × (length votes ≡ votes_length) × (length timeouts ≡ timeouts_length) × (8 ≤ out)
+  propose-needs e l = (rw e (block-qc-round-le r l), rw e (block-tc-round-le r l), s.long, s.wide, omega arith)
 
   module _ {k : Kind} (l : limit_of r k ≡ 0) where
-    pub vote-needs : {v : Vote} → k ≡ Kind.Vote → v ≡ vote_of r → Sound m own votes timeouts × (need ≡ quorum_of m) × (v.round.0 ≤ round_max) × (certify_most ≤ out)
-    vote-needs e f = (s, q, rw f (vote-round-le r (rw e at l)), omega arith)
+    pub vote-needs : {v : Vote} → k ≡ Kind.Vote → v ≡ vote_of r → Sound m own votes timeouts × (v.round.0 ≤ round_max) × (certify_most ≤ out)
+    vote-needs e f = (s, rw f (vote-round-le r (rw e at l)), omega arith)
 
     pub timeout-needs : {t : Timeout} → k ≡ Kind.Timeout → t ≡ timeout_of r
-        → Sound m own votes timeouts × (need ≡ quorum_of m) × (t.round.0 ≤ round_max) × (t.qc_round.0 ≤ round_max) × (1373 ≤ out)
-    timeout-needs e f = (s, q, rw f (timeout-round-le r (rw e at l)), rw f (timeout-qc-round-le r (rw e at l)), omega arith)
+        → Sound m own votes timeouts × (t.round.0 ≤ round_max) × (t.qc_round.0 ≤ round_max) × (1373 ≤ out)
+    timeout-needs e f = (s, rw f (timeout-round-le r (rw e at l)), rw f (timeout-qc-round-le r (rw e at l)), omega arith)
 
-    pub tc-needs : {round : ℕ} → k ≡ Kind.Tc → round ≡ tc_round r tc_body → Sound m own votes timeouts × (need ≡ quorum_of m) × (round ≤ round_max) × (715 ≤ out)
-    tc-needs e f = (s, q, rw f (tc-event-round-le r (rw e at l)), omega arith)
+    pub tc-needs : {round : ℕ} → k ≡ Kind.Tc → round ≡ tc_round r tc_body → Sound m own votes timeouts × (round ≤ round_max) × (715 ≤ out)
+    tc-needs e f = (s, rw f (tc-event-round-le r (rw e at l)), omega arith)
 
-    pub propose-limit : k ≡ Kind.Propose → Sound m own votes timeouts × (need ≡ quorum_of m) × (limit_of r Kind.Propose ≡ 0) × (first_most ≤ out)
-    propose-limit e = (s, q, rw e at l, h)
+    pub propose-limit : k ≡ Kind.Propose → Sound m own votes timeouts × (limit_of r Kind.Propose ≡ 0) × (first_most ≤ out)
+    propose-limit e = (s, rw e at l, h)
 
 -- ---- the vote for a block that the table took
 
 module _ (b : Begun) (r stakes : List ℕ) {votes timeouts : List ℕ} (o : Ongoing b r stakes votes timeouts) {k : Block} (e : k ≡ block_of r) where
   pub conclude-needs : (at : ℕ) {out : ℕ} → at + voting_most ≤ out
-      → Sound (take (b.seat.count - 0) (drop 0 stakes)) b.seat.own.0 votes timeouts × (b.need.0 ≡ quorum_of (take (b.seat.count - 0) (drop 0 stakes)))
+      → Sound (take (b.seat.count - 0) (drop 0 stakes)) b.seat.own.0 votes timeouts
       × (k.round.0 ≤ round_max) × (k.qc_round.0 ≤ round_max) × TcWithin k.tc × (at + voting_most ≤ out)
   conclude-needs at h =
-      (rw (members-part b.seat stakes) o.going.sound, rw (members-part b.seat stakes) o.need, rw e o.going.round, rw e o.going.qc_round, rw e o.going.tc_round, h)
+      (rw (members-part b.seat stakes) o.going.sound, rw e o.going.round, rw e o.going.qc_round, rw e o.going.tc_round, h)
 
   pub conclude-fits : b.seat.count ≤ length stakes
   conclude-fits = o.few

@@ -1,6 +1,5 @@
 // An event in three parts: what needs no block, then the table, then the vote.
 ghost use Rattle.std.specs.Prelude.{◌≡◌, ◌+◌, ◌≤◌, true, length, drop};
-ghost use Rattle.certificates.specs.Config.{quorum_of};
 ghost use Rattle.certificates.specs.Error.{number};
 ghost use Rattle.certificates.specs.Start.{setup_at};
 ghost use Rattle.trace.specs.declared.events.Kind.TheVariants.{Propose};
@@ -17,11 +16,12 @@ ghost use Rattle.replica.specs.Stages.{handled_in, ready_in, Filled, Boots, boot
 
 use crate::started::{Seat, is_roomy, is_sized, total_of};
 use aggregator::tallies::clear;
+use certificates::committee::{Committee, Members};
 use certificates::config::{check_setup, load, member_count, own_place, quorum_threshold};
 use certificates::error::{Answer, Refusal};
 use certificates::messages::QC;
 use certificates::num::u64_at;
-use certificates::numbers::{Hash, Place, Round, Signers, Stake};
+use certificates::numbers::{Hash, Round, Signers, Stake};
 use handlers::proposals::handle_proposal;
 use handlers::timeouts::{handle_tc, handle_timeout, local_timeout_round};
 use handlers::votes::{handle_vote, make_vote};
@@ -128,12 +128,12 @@ fn new_core() -> Core
 }
 
 // TIMER RESET; MAKE without TC if the own place leads round 1.
-fn announce(members: &[u32], own: Place, core: Core, out: &mut [u8]) -> usize
+fn announce(members: Members, core: Core, out: &mut [u8]) -> usize
     requires { announced_most ≤ length out.old }
-    ensures { Wrote announced_most (announced members.now own.0 core) out.old 0 out.new result }
+    ensures { Wrote announced_most (announced members.entry.stakes.now members.entry.own.0 core) out.old 0 out.new result }
 {
     let a = put_timer_reset(out, 0);
-    generate_proposal(members, own, core, out, a)
+    generate_proposal(members, core, out, a)
 }
 
 // The committee's seat in a record of START.
@@ -173,7 +173,11 @@ fn boot(
     fill(stakes, votes, timeouts, input);
     let fresh = new_core();
     let n = taken.count as usize;
-    let at = announce(&stakes[0..n], taken.own, fresh, out);
+    let members = Members {
+        stakes: &stakes[0..n],
+        own: taken.own,
+    };
+    let at = announce(members, fresh, out);
     Begun {
         seat: taken,
         answer: Ok(()),
@@ -233,21 +237,19 @@ fn start(
 
 // A proposal before the table.
 fn propose(
-    members: &[u32],
-    own: Place,
-    need: Stake,
+    committee: Committee,
     core: Core,
     votes: &mut [u64],
     timeouts: &mut [u64],
     out: &mut [u8],
     input: &[u8],
 ) -> Handed
-    requires { Sound members.now own.0 votes.old timeouts.old × (need.0 ≡ quorum_of members.now) × (limit_of input.now Propose ≡ 0) × (first_most ≤ length out.old) }
-    ensures { Handles (handled_in members.now own.0 (whole core votes.old timeouts.old) input.now Propose) members.now own.0 input.now out.old result votes.new timeouts.new out.new }
+    requires { Sound committee.members.stakes.now committee.members.own.0 votes.old timeouts.old × (limit_of input.now Propose ≡ 0) × (first_most ≤ length out.old) }
+    ensures { Handles (handled_in committee.entry.members.stakes.now committee.entry.members.own.0 (whole core votes.old timeouts.old) input.now Propose) committee.entry.members.stakes.now committee.entry.members.own.0 input.now out.old result votes.new timeouts.new out.new }
 {
     let b = block_of(input);
     let payload = payload_of(input);
-    let r = handle_proposal(members, need, core, votes, timeouts, out, input, b, payload);
+    let r = handle_proposal(committee, core, votes, timeouts, out, input, b, payload);
     if r.answer.is_ok() {
         return Handed {
             answer: r.answer,
@@ -261,9 +263,7 @@ fn propose(
 
 // An event of a started replica, once its limits are checked.
 fn handle(
-    members: &[u32],
-    own: Place,
-    need: Stake,
+    committee: Committee,
     core: Core,
     votes: &mut [u64],
     timeouts: &mut [u64],
@@ -271,8 +271,8 @@ fn handle(
     input: &[u8],
     kind: Kind,
 ) -> Handed
-    requires { Sound members.now own.0 votes.old timeouts.old × (need.0 ≡ quorum_of members.now) × (limit_of input.now kind ≡ 0) × (first_most ≤ length out.old) }
-    ensures { Handles (handled_in members.now own.0 (whole core votes.old timeouts.old) input.now kind) members.now own.0 input.now out.old result votes.new timeouts.new out.new }
+    requires { Sound committee.members.stakes.now committee.members.own.0 votes.old timeouts.old × (limit_of input.now kind ≡ 0) × (first_most ≤ length out.old) }
+    ensures { Handles (handled_in committee.entry.members.stakes.now committee.entry.members.own.0 (whole core votes.old timeouts.old) input.now kind) committee.entry.members.stakes.now committee.entry.members.own.0 input.now out.old result votes.new timeouts.new out.new }
 {
     match kind {
         Kind::Start => Handed {
@@ -281,18 +281,18 @@ fn handle(
             at: 0,
             does: Does::Nothing,
         },
-        Kind::Propose => propose(members, own, need, core, votes, timeouts, out, input),
+        Kind::Propose => propose(committee, core, votes, timeouts, out, input),
         Kind::Vote => {
             let v = vote_of(input);
-            of_ran(handle_vote(members, own, need, core, votes, timeouts, out, v))
+            of_ran(handle_vote(committee, core, votes, timeouts, out, v))
         }
         Kind::Timeout => {
             let t = timeout_of(input);
-            of_ran(handle_timeout(members, own, need, core, votes, timeouts, out, input, t))
+            of_ran(handle_timeout(committee, core, votes, timeouts, out, input, t))
         }
         Kind::Tc => {
             let round = Round(u64_at(input, 2));
-            of_ran(handle_tc(members, own, need, core, votes, timeouts, out, input, round))
+            of_ran(handle_tc(committee, core, votes, timeouts, out, input, round))
         }
         Kind::Loopback => Handed {
             answer: Ok(()),
@@ -300,7 +300,7 @@ fn handle(
             at: 0,
             does: Does::Block,
         },
-        Kind::Tick => of_ran(local_timeout_round(members, own, need, core, votes, timeouts, out)),
+        Kind::Tick => of_ran(local_timeout_round(committee, core, votes, timeouts, out)),
     }
 }
 
@@ -325,17 +325,12 @@ fn ready(
             Ok(()) => {
                 let n = seat.count as usize;
                 let need = quorum_threshold(total);
-                let h = handle(
-                    &stakes[0..n],
-                    seat.own,
-                    need,
-                    core,
-                    votes,
-                    timeouts,
-                    out,
-                    input,
-                    kind,
-                );
+                let members = Members {
+                    stakes: &stakes[0..n],
+                    own: seat.own,
+                };
+                let committee = Committee { members, need };
+                let h = handle(committee, core, votes, timeouts, out, input, kind);
                 of_handed(seat, need, h)
             }
             Err(refusal) => early(seat, core, refusal),
@@ -440,17 +435,15 @@ fn conclude(
     let seat = b.seat;
     let n = seat.count as usize;
     let k = block_of(input);
-    let r = make_vote(
-        &stakes[0..n],
-        seat.own,
-        b.need,
-        core,
-        votes,
-        timeouts,
-        out,
-        at,
-        k,
-    );
+    let members = Members {
+        stakes: &stakes[0..n],
+        own: seat.own,
+    };
+    let committee = Committee {
+        members,
+        need: b.need,
+    };
+    let r = make_vote(committee, core, votes, timeouts, out, at, k);
     Stepped {
         answer: r.answer,
         seat,

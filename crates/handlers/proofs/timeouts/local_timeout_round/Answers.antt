@@ -9,7 +9,7 @@ returns-then-core-gt-ROUND_MAX c = search (rules, tick-high)
 
 pub own_timeout-requires : goal.own_timeout-requires
 own_timeout-requires c =
-    (c.requires.0, c.requires.1, tick-within c.tick-a.ensures c.if-core-gt-ROUND_MAX.false, search rules)
+    (c.requires.0, tick-within c.tick-a.ensures c.if-core-gt-ROUND_MAX.false, search rules)
 
 pub returns : goal.returns
 returns c = search (rules, tick-after)

@@ -4,8 +4,8 @@ use borrow.Author.Rules.{rules}
 use Rattle.moves.proofs.MoveLaws.{make-with-leads, make-with-follows}
 use Rattle.moves.proofs.rounds.generate_proposal_with.Goals as goal
 
-pub returns-then-leader-own : goal.returns-then-leader-own
-returns-then-leader-own c = search (rules, make-with-leads)
+pub returns-then-leader-members : goal.returns-then-leader-members
+returns-then-leader-members c = search (rules, make-with-leads)
 
-pub returns-else-leader-own : goal.returns-else-leader-own
-returns-else-leader-own c = search (rules, make-with-follows)
+pub returns-else-leader-members : goal.returns-else-leader-members
+returns-else-leader-members c = search (rules, make-with-follows)

@@ -4,8 +4,8 @@ use Rattle.replica.proofs.StageCode.{boot-fits, boots}
 use borrow.Author.Rules.{rules}
 use Rattle.replica.proofs.stages.boot.Goals as goal
 
-pub slice_bounds-announce-end : goal.slice_bounds-announce-end
-slice_bounds-announce-end c =
+pub slice_bounds-members-end : goal.slice_bounds-members-end
+slice_bounds-members-end c =
     let fits = boot-fits _ _ _ _ _ _ _ _ c.requires c.seat_of-taken.ensures c.fill.ensures in
     search (rules, fits)
 

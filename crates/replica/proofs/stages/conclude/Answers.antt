@@ -4,8 +4,8 @@ use Rattle.replica.proofs.StageCode.{conclude-needs, conclude-fits, concludes}
 use borrow.Author.Rules.{rules}
 use Rattle.replica.proofs.stages.conclude.Goals as goal
 
-pub slice_bounds-make_vote-end : goal.slice_bounds-make_vote-end
-slice_bounds-make_vote-end c =
+pub slice_bounds-members-end : goal.slice_bounds-members-end
+slice_bounds-members-end c =
     let fits = conclude-fits _ _ _ c.requires.0 c.block_of-k.ensures in
     search (rules, fits)
 

@@ -6,19 +6,19 @@ use Rattle.replica.proofs.stages.handle.Goals as goal
 
 pub propose-requires : goal.propose-requires
 propose-requires c =
-    propose-limit _ _ c.requires.0 c.requires.1 c.requires.3 c.requires.2 c.in-Propose.is
+    propose-limit _ _ c.requires.0 c.requires.2 c.requires.1 c.in-Propose.is
 
 pub handle_vote-requires : goal.handle_vote-requires
 handle_vote-requires c =
-    vote-needs _ _ c.requires.0 c.requires.1 c.requires.3 c.requires.2 c.in-Vote.is c.vote_of-v.ensures
+    vote-needs _ _ c.requires.0 c.requires.2 c.requires.1 c.in-Vote.is c.vote_of-v.ensures
 
 pub handle_timeout-requires : goal.handle_timeout-requires
 handle_timeout-requires c =
-    timeout-needs _ _ c.requires.0 c.requires.1 c.requires.3 c.requires.2 c.in-Timeout.is c.timeout_of-t.ensures
+    timeout-needs _ _ c.requires.0 c.requires.2 c.requires.1 c.in-Timeout.is c.timeout_of-t.ensures
 
 pub handle_tc-requires : goal.handle_tc-requires
 handle_tc-requires c =
-    tc-needs _ _ c.requires.0 c.requires.1 c.requires.3 c.requires.2 c.in-Tc.is c.u64_at.ensures
+    tc-needs _ _ c.requires.0 c.requires.2 c.requires.1 c.in-Tc.is c.u64_at.ensures
 
 pub returns-in-Start : goal.returns-in-Start
 returns-in-Start c = search (rules, handle-start)
