@@ -1,7 +1,7 @@
 -- Laws of VOTE and of the vote for a block: one for each way out. Assumes nothing.
 --     vote-stale, vote-author, vote-member                the checks, and the member whose check is passed
 --     vote-refused, vote-passed                           `handle_vote`
---     extends-..., may-..., own-vote-...                  `is_extending`, `may_vote`, `own_vote`
+--     own-vote-refused, own-vote-passed                   `own_vote`
 --     sent-counted, sent                                  `send_vote`
 --     voting-past, voting-not, voting-voted               `make_vote`
 use Prim.Native.Nat.{ℕ, ◌+◌, ◌≤◌, ◌<◌}
@@ -68,36 +68,6 @@ module _ (m : List ℕ) (own : ℕ) (core : Core) (votes timeouts out : List ℕ
       → Reached certify_most (handled_vote m own (whole core votes timeouts) v) out 0 r v' t' out'
   unfolding handled_vote
   vote-passed z q s h = rw (← q, ← s) (reached-checked-passed _ (whole core votes timeouts) (answer-yes e z) h)
-
--- ---- the voting rules
-
-module _ (b : Block) where
-  pub extends-qc : b.qc_round.0 + 1 ≡ b.round.0 → true ≡ extends b
-  unfolding extends
-  extends-qc h = rw (eq-eqb _ _ h)
-
-  module _ (n : b.qc_round.0 + 1 ≡ b.round.0 → ⊥) where
-    pub extends-none : b.tc ≡ None → false ≡ extends b
-    unfolding extends
-    extends-none h = rw (ne_eqb _ _ n, h)
-
-    module _ {t : BlockTc} (some : b.tc ≡ Some t) where
-      pub extends-tc : t.round.0 + 1 ≡ b.round.0 → leb t.high.0 b.qc_round.0 ≡ extends b
-      unfolding extends
-      extends-tc h = rw (ne_eqb _ _ n, some, eq-eqb _ _ h)
-
-      pub extends-other : (t.round.0 + 1 ≡ b.round.0 → ⊥) → false ≡ extends b
-      unfolding extends
-      extends-other h = rw (ne_eqb _ _ n, some, ne_eqb _ _ h)
-
-  module _ (c : Core) where
-    pub may-new : {t : Bool} → c.last_voted_round.0 < b.round.0 → t ≡ extends b → t ≡ may_vote c b
-    unfolding may_vote
-    may-new h e = rw (lt-ltb _ _ h) e
-
-    pub may-old : b.round.0 ≤ c.last_voted_round.0 → false ≡ may_vote c b
-    unfolding may_vote
-    may-old h = rw (le-ltb _ _ h)
 
 -- ---- the own vote
 

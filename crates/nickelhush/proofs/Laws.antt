@@ -161,11 +161,6 @@ module _ (ss cs ks vs ts : List ℕ) (ys : List Slot) (zs xs : List ℕ) where
 
 -- ---- the other exports
 
-pub number_past : (s : List ℕ) (i : ℕ) → length s ≤ i → 0 ≡ get_or s i 0
-number_past [] i l = refl
-number_past (x ∷ s) zero l = absurd (not-suc-le-zero l)
-number_past (x ∷ s) (suc i) l = number_past s i (le_of_suc-le-suc l)
-
 module _ (s : List ℕ) {f : Front} (p : f ≡ split_of s) where
   pub at-end : f ≡ Front.End → 0 ≡ taken_of (split_of s)
   at-end e = rw (← p, e)

@@ -64,26 +64,10 @@ module _ (stakes votes timeouts : ℕ) where
   unfolding sized
   sized-all a b = rw (eq-eqb _ _ a, eq-eqb _ _ b)
 
-  pub sized-votes : stakes ≡ members_max → (votes ≡ votes_length → ⊥) → false ≡ sized stakes votes timeouts
-  unfolding sized
-  sized-votes a b = rw (eq-eqb _ _ a, ne_eqb _ _ b)
-
-  pub sized-stakes : (stakes ≡ members_max → ⊥) → false ≡ sized stakes votes timeouts
-  unfolding sized
-  sized-stakes a = rw (ne_eqb _ _ a)
-
   module _ (seat : Seat) where
     pub shaped-all : {t : Bool} → seat.count ≤ members_max → seat.own.0 < seat.count → t ≡ sized stakes votes timeouts → t ≡ shaped seat stakes votes timeouts
     unfolding shaped
     shaped-all a b e = rw (le-leb _ _ a, lt-ltb _ _ b) e
-
-    pub shaped-own : seat.count ≤ members_max → seat.count ≤ seat.own.0 → false ≡ shaped seat stakes votes timeouts
-    unfolding shaped
-    shaped-own a b = rw (le-leb _ _ a, le-ltb _ _ b)
-
-    pub shaped-many : members_max < seat.count → false ≡ shaped seat stakes votes timeouts
-    unfolding shaped
-    shaped-many a = rw (lt-leb _ _ a)
 
 light-by : (a b : Bool) (t : Stake) → cond (not (a || b)) (Some t) None ≡ cond a None (cond b None (Some t))
 light-by true b t = refl
@@ -104,33 +88,6 @@ module _ (votes timeouts : List ℕ) (t : Stake) {l : Bool} (e : l ≡ not (any_
 -- the committee, as it is lent out of the stakes
 pub members-part : (seat : Seat) (stakes : List ℕ) → take (seat.count - 0) (drop 0 stakes) ≡ members_of seat stakes
 members-part seat stakes = let e : seat.count - 0 ≡ seat.count = omega arith in rw e
-
-module _ (seat : Seat) (stakes votes timeouts : List ℕ) {b : Bool} (e : b ≡ shaped seat (length stakes) (length votes) (length timeouts)) where
-  pub started-shapeless : b ≡ false → None ≡ started_of seat stakes votes timeouts
-  unfolding started_of
-  started-shapeless h = rw (← e, h)
-
-  module _ (h : b ≡ true) {st : Option Stake} (f : st ≡ setup_of (take (seat.count - 0) (drop 0 stakes))) where
-    pub started-bad : st ≡ None → None ≡ started_of seat stakes votes timeouts
-    unfolding started_of
-    started-bad i = rw (← e, h, ← members-part seat stakes, ← f, i)
-
-    pub started-good : {t : Stake} {r : Option Stake} → st ≡ Some t → r ≡ light_in votes timeouts (Some t) → r ≡ started_of seat stakes votes timeouts
-    unfolding started_of
-    started-good i j = rw (← e, h, ← members-part seat stakes, ← f, i) j
-
-module _ (slots room : ℕ) where
-  pub roomy-none : slots ≡ 0 → false ≡ roomy slots room
-  unfolding roomy
-  roomy-none h = rw (eq-eqb _ _ h)
-
-  pub roomy-many : (slots ≡ 0 → ⊥) → slots_max < slots → false ≡ roomy slots room
-  unfolding roomy
-  roomy-many a h = rw (ne_eqb _ _ a, lt-ltb _ _ h)
-
-  pub roomy-by : (slots ≡ 0 → ⊥) → slots ≤ slots_max → leb (room_for slots) room ≡ roomy slots room
-  unfolding roomy
-  roomy-by a h = rw (ne_eqb _ _ a, le-ltb _ _ h)
 
 -- ---- a record that counts as started
 

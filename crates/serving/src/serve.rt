@@ -115,17 +115,11 @@ pub fn serve<R: Read, E: Read, W: Write>(
 pub(crate) fn blank_table() -> [Slot; SLOTS]
     ensures { result ≡ replicate slots blank }
 {
-    let zero = Hash {
-        a: 0,
-        b: 0,
-        c: 0,
-        d: 0,
-    };
     let s = Slot {
         used: false,
-        digest: zero,
+        digest: Hash::ZERO,
         round: Round(0),
-        parent: zero,
+        parent: Hash::ZERO,
         parent_round: Round(0),
     };
     [s; SLOTS]

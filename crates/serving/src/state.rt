@@ -126,12 +126,6 @@ impl Mode {
 fn idle() -> Run
     ensures { result ≡ idle_run }
 {
-    let zero = Hash {
-        a: 0,
-        b: 0,
-        c: 0,
-        d: 0,
-    };
     Run {
         seat: Seat {
             count: 0,
@@ -142,7 +136,7 @@ fn idle() -> Run
             last_voted_round: Round(0),
             last_committed_round: Round(0),
             high_qc: QC {
-                hash: zero,
+                hash: Hash::ZERO,
                 round: Round(0),
                 signers: Signers(0),
             },

@@ -170,13 +170,7 @@ store-room : (i n : ℕ) → store_answer i n ≡ 0 → ltb i n ≡ true
 store-room i n = by_cases (ltb i n) (λ e. rw e (λ _. refl)) (λ e. rw e (λ z. absurd (omega arith)))
 
 module _ (t : List Slot) (b : Slot) where
-  pub admit-short : {x : Refusal} → ancestors_of t b ≡ Err x → Admits t b (Err x) t
-  admit-short h = record { answer = rw h; slots = refl }
-
   module _ {a : Ancestors} (found : ancestors_of t b ≡ Ok a) {t' : List Slot} where
-    pub admit-store : (0 ≡ store_answer (place_of t b) (length t)) × (t' ≡ stored t b) → Admits t b (Ok a) t'
-    admit-store said = record { answer = rw (found, store-room (place_of t b) (length t) (sym said.0)); slots = said.1 }
-
     -- a store that is refused changes nothing
     pub admit-full : {x : Refusal} → (code x ≡ store_answer (place_of t b) (length t)) × (t' ≡ stored t b) → Admits t b (Err x) t'
     unfolding stored

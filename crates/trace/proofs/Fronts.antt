@@ -14,10 +14,6 @@ module _ (s : List ℕ) where
   unfolding split_of
   at-end h = rw (lt-ltb _ _ h)
 
-  pub no_length : 1 ≤ length s → length s < 2 → Cut ≡ split_of s
-  unfolding split_of
-  no_length h1 h2 = rw (le-ltb _ _ h1, lt-ltb _ _ h2)
-
   module _ {n : ℕ} (e : n ≡ num_at 2 s 0) (h : 2 ≤ length s) where
     by_length : framed s n ≡ split_of s
     unfolding split_of
@@ -26,10 +22,6 @@ module _ (s : List ℕ) where
     pub too_long_lem : record_max < n → Cut ≡ split_of s
     unfolding framed
     too_long_lem l = rw (lt-ltb _ _ l) at by_length
-
-    pub too_short : n ≤ record_max → length s < n + 2 → Cut ≡ split_of s
-    unfolding framed
-    too_short l m = rw (le-ltb _ _ l, lt-ltb _ _ m) at by_length
 
     pub no_kind : n ≤ record_max → n + 2 ≤ length s → n < 2 → Small (n + 2) ≡ split_of s
     unfolding framed
