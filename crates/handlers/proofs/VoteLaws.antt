@@ -10,9 +10,9 @@ use mathlib.Core.List.{List}
 use mathlib.Core.Path.{◌≡◌, sym, ◌∙◌}
 use native.Mathlib.Omega.{arith}
 use borrow.Author.Tests.{eq-eqb, ne_eqb, lt-ltb, le-ltb}
-use lib.Dec.{ltb, leb, eqb}
+use lib.Dec.{ltb, eqb}
 use lib.ListN.{length}
-use Rattle.std.specs.Prelude.{Result, Ok, Err, None, Some}
+use Rattle.std.specs.Prelude.{Result, Ok, Err}
 use Rattle.certificates.specs.declared.numbers.Stake.{Stake}
 use Rattle.certificates.specs.declared.error.AuthorError.{AuthorError}
 use Rattle.certificates.specs.Config.{stake_of, quorum_of}
@@ -22,7 +22,6 @@ use Rattle.certificates.specs.declared.error.Refusal.{Refusal}
 use Rattle.certificates.specs.Error.{code, number, author_number}
 use Rattle.trace.specs.declared.events.Vote.{Vote}
 use Rattle.trace.specs.declared.events.Block.{Block}
-use Rattle.trace.specs.declared.events.BlockTc.{BlockTc}
 use Rattle.outputs.specs.Put.{Put}
 use Rattle.outputs.specs.Records.{vote, vote_size, enc}
 use Rattle.outputs.proofs.Wrote.{wrote_one}
@@ -33,7 +32,7 @@ use Rattle.moves.specs.Outcome.{quiet, done, Reached}
 use Rattle.moves.specs.Moves.{certify_most}
 use Rattle.moves.specs.Tallied.{vote_tallied}
 use Rattle.moves.proofs.Outcomes.{did-wrote, reached-refused, reached-after, reached-checked-refused, reached-checked-passed}
-use Rattle.handlers.specs.Votes.{vote_check, handled_vote, extends, may_vote, own_vote, voted, voting, voting_most}
+use Rattle.handlers.specs.Votes.{vote_check, handled_vote, may_vote, own_vote, voted, voting, voting_most}
 use Rattle.handlers.proofs.HandlerLaws.{author-member, answer-no, answer-yes}
 
 -- ---- the checks of VOTE

@@ -1,6 +1,5 @@
 -- Laws of the host's memory: one for each way out of the code, and what joins a step to `hosted`. Assumes nothing.
 use Prim.Native.Nat.{ℕ, zero, suc, ◌≤◌, ◌<◌}
-use native.Mathlib.Nat.{not-suc-le-zero, le_of_suc-le-suc}
 use mathlib.Core.Bool.{Bool, true, false, cond, true≢false}
 use mathlib.Core.List.{List, [], ◌∷◌}
 use mathlib.Core.Path.{◌≡◌, refl, sym, ◌∙◌, ap}

@@ -4,7 +4,7 @@ use mathlib.Core.Bool.{Bool, true, false, not, cond, ◌||◌, true≢false}
 use mathlib.Core.List.{List}
 use mathlib.Core.Path.{◌≡◌, refl, sym, ◌∙◌, ap}
 use native.Mathlib.Omega.{arith}
-use borrow.Author.Tests.{eq-eqb, ne_eqb, le-leb, lt-leb, lt-ltb, le-ltb, eqb-true, ltb-true, leb-true}
+use borrow.Author.Tests.{eq-eqb, le-leb, lt-ltb, eqb-true, ltb-true, leb-true}
 use lib.Dec.{eqb, ltb, leb}
 use lib.ListN.{length, take, drop}
 use lib.Seq.{length-take-le}
@@ -17,7 +17,7 @@ use Rattle.aggregator.specs.Tallies.{vote_tallies, timeout_tallies, votes_length
 use Rattle.aggregator.proofs.Laws.{light-of, light-more}
 use Rattle.handlers.specs.Sound.{Sound}
 use Rattle.replica.specs.declared.started.Seat.{Seat}
-use Rattle.replica.specs.Started.{members_of, sized, shaped, light_in, started_of, slots_max, room_for, roomy}
+use Rattle.replica.specs.Started.{members_of, sized, shaped, light_in, started_of}
 
 -- a setup that is bad is none with a total
 bad≢total : {t : Stake} → ◌≡◌ {A = Option Stake} None (Some t) → ⊥
