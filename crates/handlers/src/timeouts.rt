@@ -55,6 +55,7 @@ fn check_timeout(
 
 // A timeout of a member counted in its tally; at the quorum its TC is written and taken. The state is
 // handed on only at the quorum, so that no other timeout copies it.
+#[inline(always)]
 fn count_timeout(
     committee: Committee,
     core: Core,

@@ -37,7 +37,8 @@ fn vote_check(members: &[u32], current: Round, v: Vote) -> Answer
 }
 
 // A vote of a member counted in its tally; at the quorum its QC is taken. The state is handed on only
-// at the quorum, so that no other vote copies it.
+// at the quorum, so that no other vote copies it; as a call of its own it would be copied by each.
+#[inline(always)]
 fn count_vote(
     committee: Committee,
     core: Core,

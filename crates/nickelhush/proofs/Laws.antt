@@ -48,10 +48,6 @@ ready-fits seat core k e = (both (fit seat core) _ e).0
 pub ready-has : (seat core : ℕ) (k : Option Kind) → ready seat core k ≡ true → Fit seat core
 ready-has seat core k e = fit_has seat core (ready-fits seat core k e)
 
--- an event's answer where it is not
-pub refused_as_lem : (xs : List ℕ) {k : Option Kind} {a x : ℕ} → k ≡ form_of xs → a ≡ unfit_answer k → x ≡ packed a 0 → x ≡ packed (unfit_answer (form_of xs)) 0
-refused_as_lem xs k a x = rw (← k, ← a) x
-
 -- ---- how much an event writes
 
 -- without room nothing is written

@@ -11,6 +11,7 @@ use outputs::records::COMMIT_SIZE;
 use replica::started::{ROOM, SLOTS_MAX};
 use replica::step::step;
 use synchronizer::table::Slot;
+use trace::events::form_of;
 use trace::record::{Front, RECORD_MAX, split};
 
 // One event: the record's kind and body, without its length. The result is the answer, and 65,536
@@ -28,13 +29,14 @@ pub extern "C" fn nickelhush_step(
 ) -> u32
     ensures { handed result (lent seat.new core.new stakes.new votes.new timeouts.new table.new out.new) ≡ hosted (lent seat.old core.old stakes.old votes.old timeouts.old table.old out.old) input.now }
 {
-    if is_ready(seat, core, input) {
+    let kind = form_of(input);
+    if is_ready(seat, core, kind) {
         let s = seat_in(seat);
         let c = core_in(core);
         let r = step(stakes, votes, timeouts, table, out, input, s, c);
         return keep(seat, core, r);
     }
-    refuse(input)
+    refuse(kind)
 }
 
 // The answer in a result of `nickelhush_step`.

@@ -2,7 +2,6 @@
 // event's result as one number.
 ghost use Rattle.std.specs.Prelude.{◌≡◌, ◌≤◌, length, replicate, get_or};
 ghost use Rattle.certificates.specs.Error.{number};
-ghost use Rattle.trace.specs.Form.{form_of};
 ghost use Rattle.nickelhush.specs.Memory.{seat_length, core_length, fit, ready, seat_of, core_of, seat_numbers, core_numbers, packed, written_most, unfit_answer};
 
 use certificates::error::{Answer, Refusal, number};
@@ -11,7 +10,7 @@ use certificates::numbers::{Hash, Place, Round, Signers};
 use moves::state::Core;
 use replica::stages::Stepped;
 use replica::started::Seat;
-use trace::events::{Kind, form_of};
+use trace::events::Kind;
 
 // The numbers that hold the seat: the member count, the own place.
 pub const SEAT_LENGTH: usize = 2;
@@ -28,12 +27,13 @@ fn is_fit(seat: &[u16], core: &[u64]) -> bool
     seat.len() == SEAT_LENGTH && core.len() == CORE_LENGTH
 }
 
-// That, and the record has a form. What has none is refused before the replica is read.
+// That, and the record has a kind, since its form is that of one. What has none is refused before the
+// replica is read.
 #[tactic(auto, unfolding(crate::specs::Memory::ready))]
-pub(crate) fn is_ready(seat: &[u16], core: &[u64], input: &[u8]) -> bool
-    ensures { result ≡ ready (length seat.now) (length core.now) (form_of input.now) }
+pub(crate) fn is_ready(seat: &[u16], core: &[u64], kind: Option<Kind>) -> bool
+    ensures { result ≡ ready (length seat.now) (length core.now) kind }
 {
-    is_fit(seat, core) && form_of(input).is_some()
+    is_fit(seat, core) && kind.is_some()
 }
 
 pub(crate) fn seat_in(seat: &[u16]) -> Seat
@@ -124,8 +124,8 @@ fn unfit_answer(kind: Option<Kind>) -> Answer
     })
 }
 
-pub(crate) fn refuse(input: &[u8]) -> u32
-    ensures { result ≡ packed (unfit_answer (form_of input.now)) 0 }
+pub(crate) fn refuse(kind: Option<Kind>) -> u32
+    ensures { result ≡ packed (unfit_answer kind) 0 }
 {
-    pack(unfit_answer(form_of(input)), 0)
+    pack(unfit_answer(kind), 0)
 }

@@ -14,7 +14,7 @@
 ghost use Rattle.std.specs.Prelude.{◌≡◌, ◌^◌, ◌<◌, length, drop, set, MatchOption};
 ghost use Rattle.certificates.specs.Error.{number};
 ghost use Rattle.trace.specs.Layout.{signers_max, count_of, size_by, part_of, qc_part, tc_part, flag_at, tc_at, block_end, payload_of, tc_rounds, largest, largest_high, highs_of};
-ghost use Rattle.trace.specs.Form.{Numbered, size_of, in_range, is_formed, form_of, are_marks};
+ghost use Rattle.trace.specs.Form.{Numbered, is_formed, form_of, are_marks};
 ghost use Rattle.trace.specs.Limits.{empty_tc, bounded, limit_of};
 ghost use Rattle.trace.specs.Fields.{vote_of, timeout_of, block_of};
 
@@ -213,21 +213,6 @@ pub fn payload_of(record: &[u8]) -> u8
 
 // ---- the form of each kind: the length that the counts call for, and verdicts and flags in range
 
-// How many bytes a record of a kind has, by its counts.
-fn size_of(record: &[u8], kind: Kind) -> usize
-    ensures { result ≡ size_of «record».now kind }
-{
-    match kind {
-        Kind::Start => 6 + 36 * usize::from(u16_at(record, 2)),
-        Kind::Propose => block_end(record) + 1,
-        Kind::Vote => 45,
-        Kind::Timeout => TIMEOUT_QC + QC.size_at(record, TIMEOUT_QC),
-        Kind::Tc => TC_BODY + TC.size_at(record, TC_BODY),
-        Kind::Loopback => block_end(record),
-        Kind::Tick => 2,
-    }
-}
-
 // Whether the verdicts and the flag of a block are 0 or 1.
 #[tactic(auto, unfolding(crate::specs::Form::block_marks, crate::specs::Form::any_above))]
 fn are_marks(record: &[u8]) -> bool
@@ -239,27 +224,28 @@ fn are_marks(record: &[u8]) -> bool
         && tc_at(record).is_none_or(|tc| byte_at(record, tc + 8) <= 1)
 }
 
-// Whether the verdicts and flags of a record of a kind are in range.
-#[tactic(auto, unfolding(crate::specs::Form::any_above))]
-fn in_range(record: &[u8], kind: Kind) -> bool
-    ensures { result ≡ in_range «record».now kind }
-{
-    match kind {
-        Kind::Start | Kind::Tick => true,
-        Kind::Propose => are_marks(record) && payload_of(record) <= 2,
-        Kind::Vote => byte_at(record, 44) <= 1,
-        Kind::Timeout => byte_at(record, 12) <= 1 && byte_at(record, 53) <= 1,
-        Kind::Tc => byte_at(record, 10) <= 1,
-        Kind::Loopback => are_marks(record),
-    }
-}
-
-// Whether a record has the form of a kind.
-#[tactic(auto, unfolding(crate::specs::Form::is_formed))]
+// Whether a record has the form of a kind. One match looks at the length and at the bytes that have a
+// range: with a match for each, a record waits for a second jump.
+#[tactic(auto, unfolding(crate::specs::Form::is_formed, crate::specs::Form::any_above))]
 fn is_formed(record: &[u8], kind: Kind) -> bool
     ensures { result ≡ is_formed «record».now kind }
 {
-    record.len() == size_of(record, kind) && in_range(record, kind)
+    let n = record.len();
+    match kind {
+        Kind::Start => n == 6 + 36 * usize::from(u16_at(record, 2)),
+        Kind::Propose => {
+            n == block_end(record) + 1 && are_marks(record) && payload_of(record) <= 2
+        }
+        Kind::Vote => n == 45 && byte_at(record, 44) <= 1,
+        Kind::Timeout => {
+            n == TIMEOUT_QC + QC.size_at(record, TIMEOUT_QC)
+                && byte_at(record, 12) <= 1
+                && byte_at(record, 53) <= 1
+        }
+        Kind::Tc => n == TC_BODY + TC.size_at(record, TC_BODY) && byte_at(record, 10) <= 1,
+        Kind::Loopback => n == block_end(record) && are_marks(record),
+        Kind::Tick => n == 2,
+    }
 }
 
 // The kind of a record that has the form of its kind, and None for any other.
