@@ -87,17 +87,6 @@ module _ (s : List ℕ) (at : ℕ) where
 
   -- ---- the bytes that a read takes, and zeros where they do not all lie in s
 
-  pub bytes-in : (n : ℕ) {rest xs : List ℕ} → rest ≡ slice_range s at (length s) → at ≤ length s → n ≤ length rest → xs ≡ take n rest → xs ≡ bytes_at n s at
-  unfolding bytes_at
-  bytes-in n {rest} {xs} e l h p =
-      let long : length (drop at s) ≡ length s - at = length-drop at s in
-      let all : rest ≡ drop at s = e ∙ take_all (length s - at) (drop at s) (omega (arith, long)) in
-      rw (le-leb (at + n) (length s) (omega (arith, long, ap (length {A = ℕ}) all)), p, all) refl
-
-  pub bytes-out : (n : ℕ) → length s < at + n → replicate n 0 ≡ bytes_at n s at
-  unfolding bytes_at
-  bytes-out n h = rw (lt-leb (at + n) (length s) h)
-
   le-bytes : (n : ℕ) → le (bytes_at n s at) ≡ num_at n s at
   unfolding bytes_at num_at
   le-bytes n = cases (leb (at + n) (length s))
