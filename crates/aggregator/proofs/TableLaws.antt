@@ -229,7 +229,7 @@ heavy-never w n v total l =
 
 -- ---- the ways of `is_any_heavy`
 
-module _ (w n : ℕ) (v : List ℕ) (total : ℕ) {i : ℕ} where
+module _ (w n : ℕ) (v : List ℕ) (total i : ℕ) where
   -- a tally looked at from where it begins in the table
   pub look-heavy : {m from : ℕ} {b : Bool} → fields ≤ w → fields ≤ m → i < n → from ≡ i * w → b ≡ is_heavy total (take m (drop from v)) → b ≡ true → true ≡ heavy w n v total
   unfolding heavy find_heavy find_row
