@@ -6,7 +6,7 @@ use mathlib.Core.List.{List, [], ◌∷◌, ◌++◌}
 use Prim.Native.Nat.{ℕ, zero, suc, ◌+◌, ◌-◌, ◌*◌, ◌^◌, ◌≤◌, ◌<◌}
 use native.Mathlib.Nat.{one-mul, mul-zero, mul-suc, mul_assoc, mul_comm, pow-succ'}
 use native.Mathlib.Omega.{arith}
-use Rattle.std.specs.Prelude.{cond, slice_range}
+use Rattle.std.specs.Prelude.{cond}
 use Rattle.std.proofs.lemmas.List.{drop-take, take-take}
 use Rattle.std.specs.Int.{sum_through, byte_worth}
 use lib.ListN.{length, take, drop, get_or, replicate, length-drop}
