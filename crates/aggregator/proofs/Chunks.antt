@@ -1,7 +1,6 @@
--- What an iterator over the rows of a table finds: `chunks_exact` with `position`, or with `any`. Nothing here knows what a row means. In order:
+-- What an iterator over the rows of a table finds: `chunks_exact` with `position`. Nothing here knows what a row means. In order:
 --     item-row, some_item     the items are the rows
 --     chunks-position         the lowest row that passes
---     chunks-any              whether there is one
 -- Assumes nothing.
 use Prim.Native.Nat.{ℕ, ◌+◌, ◌*◌, ◌/◌, ◌≤◌, ◌<◌}
 use mathlib.Core.Bool.{Bool, true, false}
@@ -13,14 +12,14 @@ use native.Mathlib.Omega.{arith}
 use denote.Param.Members.{Mut, Called}
 use denote.Ref.{Bor}
 use lib.ListN.{length}
-use Rattle.std.proofs.Common.{Option, Some, None, MatchOption, MatchBool, IsSomeAnd, is_some}
+use Rattle.std.proofs.Common.{Option, Some, None, MatchOption, IsSomeAnd}
 use Rattle.std.proofs.iter.runs.Made.{at-is}
 use Rattle.std.proofs.lemmas.Option.{slice_get_cases}
-use Rattle.std.specs.Iterator.Runs.{Run, SomeRun, EveryRun, IsChunksExactRun, CallKeepsClosure, AllItemsGive, AnyItemGives, IsFirstToGive}
+use Rattle.std.specs.Iterator.Runs.{Run, SomeRun, EveryRun, IsChunksExactRun, CallKeepsClosure, AllItemsGive, IsFirstToGive}
 use Rattle.std.specs.Slice.Iter.{chunks_exact_rest, chunks_exact_size, chunks_exact_steps}
 use Rattle.std.specs.declared.slice.ChunksExact.{ChunksExact}
 use Rattle.aggregator.specs.Rows.{row, lowest, FoundAs}
-use Rattle.aggregator.proofs.Rows.{lowest-found, lowest-some, none-found}
+use Rattle.aggregator.proofs.Rows.{lowest-found, none-found}
 
 module _ (p : Run (chunks_exact_steps {A = ℕ})) where
   item-row : (w : ℕ) (v : List ℕ) → IsChunksExactRun p w v → (k : ℕ) (x : Bor (List ℕ)) → p.at k ≡ Some x → (k * w + w ≤ length v) × (x.now ≡ row w v k)
@@ -66,11 +65,3 @@ module _ (w n : ℕ) (v : List ℕ) (long : length v ≡ n * w) (wide : 0 < w) (
       let first = h.1 same_closure in
       lowest-found test w v n i (item_below p w n v long wide (cut p e) i x.0 x.1) (asked p e true i x.0 x.1 first.0)
       (λ j l. let y = some_item p j (omega (arith, h.0)) in asked p e false j y.0 y.1 (first.1 j l))
-
-  pub chunks-any : (r : Bool) → SomeRun (chunks_exact_steps {A = ℕ}) s (λ u. MatchBool r (AnyItemGives u g f true) ((u.whole ≡ true) × AllItemsGive u g f false))
-      → r ≡ is_some (lowest test w v n 0)
-  chunks-any true (p, e, h) =
-      let a = h same_closure in
-      let x = some_item p a.0 a.1 in
-      sym (lowest-some test w v n a.0 (item_below p w n v long wide (cut p e) a.0 x.0 x.1) (asked p e true a.0 x.0 x.1 a.2))
-  chunks-any false (p, e, h) = rw (← (none-found test w v n (none_passes p e h.0 h.1)).is)

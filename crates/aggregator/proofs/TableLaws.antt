@@ -4,7 +4,8 @@
 --     append-part                                an author counted in a row that is lent as a part
 --     add-...                                    the ways out of `add`, and what it asks on the way
 --     added-no-room, added-used, added-below     what an answer says
---     joined-..., heavy-never, are-light-...     the ways of `weights_of` and `are_light`
+--     joined-..., heavy-never, look-...          the ways of `weights_of` and `is_any_heavy`
+--     are-light-...                              the ways out of `are_light`
 --     highs-...                                  the high rounds
 --     Each, each-...                             what holds of every tally in use, and goes on to hold
 -- Assumes nothing.
@@ -24,13 +25,13 @@ use borrow.Author.Tests.{eqb-true}
 use borrow.Rule.Slice.PartMut.{put_mid}
 use lib.Bits.{bit_or}
 use lib.ListN.{length, get_or, take, drop, length-take, length-drop}
-use lib.Seq.{drop-drop, drop_at, take-add, length-take-le}
+use lib.Seq.{drop-drop, drop_at, take-add, get_or-take, length-take-le}
 use Rattle.certificates.specs.declared.numbers.Signers.{Signers}
 use Rattle.aggregator.specs.Rows.{zeros, row, with_row, FoundAs}
 use Rattle.aggregator.specs.Tally.{fields, places, vote_width, timeout_width, used_of, round_of, weight_of, names_of, is_free, is_heavy, kept, has_name, with_author, counted, answer_of, AddedAs, Added, quorum_at}
 use Rattle.aggregator.specs.Tallies.{vote_tallies, timeout_tallies, timeouts_length, total_max, find_row, find_free, find_heavy, heavy, any_heavy, Light, joined, dropped, first_of, place_for, opened, table_for, TallyFor, Countable, answer_at, table_at, added, after, highs_at, HighsAs}
 use Rattle.aggregator.specs.Keys.{Keyed}
-use Rattle.aggregator.proofs.Rows.{none_found, part-row, put_as, row_at, row_within, lowest-below, lowest-holds, none-lowest, with_row-same, with_row-row, with_row-length, with_row-each, map_rows-row, zeros-row}
+use Rattle.aggregator.proofs.Rows.{none_found, part-row, put_as, row_at, row_within, lowest-below, lowest-holds, none-lowest, lowest-some, with_row-same, with_row-row, with_row-length, with_row-each, map_rows-row, zeros-row}
 use Rattle.aggregator.proofs.TallyLaws.{heavy-under, used-has, answer-some, answer-row, kept-length, kept-used, name-none}
 
 -- ---- the tally that a test asks for
@@ -225,6 +226,22 @@ heavy-never : (w n : ℕ) (v : List ℕ) (total : ℕ) → joined w n v ≤ tota
 unfolding heavy find_heavy find_row
 heavy-never w n v total l =
     rw (none-lowest (is_heavy total) w v n 0 (λ i a b. sym (heavy-under (used_of (row w v i)) (weight_of (row w v i)) total (omega (arith, joined-above w n i v (omega arith))))))
+
+-- ---- the ways of `is_any_heavy`
+
+module _ (w n : ℕ) (v : List ℕ) (total i : ℕ) where
+  -- a tally looked at from where it begins in the table
+  pub look-heavy : {m from : ℕ} {b : Bool} → fields ≤ w → fields ≤ m → i < n → from ≡ i * w → b ≡ is_heavy total (take m (drop from v)) → b ≡ true → true ≡ heavy w n v total
+  unfolding heavy find_heavy find_row
+  look-heavy {m} {from} wide long h at is e =
+      let numbers : (k : ℕ) → k < fields → get_or (row w v i) k 0 ≡ get_or (take m (drop from v)) k 0 =
+      λ k l. get_or-take w (drop (i * w) v) k 0 (omega arith) ∙ rw (← at) (sym (get_or-take m (drop from v) k 0 (omega arith))) in
+      sym (lowest-some (is_heavy total) w v n i h (rw (numbers 0 (omega arith), numbers 2 (omega arith)) (sym is ∙ e)))
+
+  -- where none of the first n is
+  pub look-end : n ≤ i → ((j : ℕ) → j < i → is_heavy total (row w v j) ≡ false) → false ≡ heavy w n v total
+  unfolding heavy find_heavy find_row
+  look-end h none = rw (none-lowest (is_heavy total) w v n 0 (λ j a b. none j (omega arith)))
 
 -- ---- the ways out of `are_light`
 

@@ -15,6 +15,7 @@
 --     weight_after weight need        a weight, or 0 where it makes the quorum
 --     with_author mark t p stake need  the tally with one more author; `mark` is `with_high p high` or `no_high`
 --     counted mark t p stake need     the same, but a used author changes nothing
+--     Added, quorum_at i s            what is answered of a name that is added; the quorum s in row i
 --     answer_of i t p stake need      what is then answered of the tally in row i
 --     AddedAs a v r v'                the answer r is a, and the numbers v' are v
 use Rattle.aggregator.specs.declared.tallies.AddError.TheVariants.{Used}

@@ -204,7 +204,12 @@ fn is_any_heavy<K: Key>(table: &[u64], total: Stake) -> bool
     requires { length table.now ≡ K.TALLIES * K.WIDTH }
     ensures { result ≡ heavy K.WIDTH K.TALLIES table.now total.0 }
 {
-    table.chunks_exact(K::WIDTH).any(|t| is_heavy(t, total))
+    for i in 0..K::TALLIES {
+        if is_heavy(&table[i * K::WIDTH..], total) {
+            return true;
+        }
+    }
+    false
 }
 
 // Whether no tally in use is heavier than the total. Where the bits of all weights together are no

@@ -6,7 +6,7 @@ use mathlib.Core.List.{List, [], ◌∷◌, ◌++◌}
 use Prim.Native.Nat.{ℕ, zero, suc, ◌+◌, ◌-◌, ◌*◌, ◌^◌, ◌≤◌, ◌<◌}
 use native.Mathlib.Nat.{one-mul, mul-zero, mul-suc, mul_assoc, mul_comm, pow-succ'}
 use native.Mathlib.Omega.{arith}
-use Rattle.std.specs.Prelude.{cond, slice_range}
+use Rattle.std.specs.Prelude.{cond}
 use Rattle.std.proofs.lemmas.List.{drop-take, take-take}
 use Rattle.std.specs.Int.{sum_through, byte_worth}
 use lib.ListN.{length, take, drop, get_or, replicate, length-drop}
@@ -86,17 +86,6 @@ module _ (s : List ℕ) (at : ℕ) where
   num-within w e h = rw (le-leb _ _ h) e
 
   -- ---- the bytes that a read takes, and zeros where they do not all lie in s
-
-  pub bytes-in : (n : ℕ) {rest xs : List ℕ} → rest ≡ slice_range s at (length s) → at ≤ length s → n ≤ length rest → xs ≡ take n rest → xs ≡ bytes_at n s at
-  unfolding bytes_at
-  bytes-in n {rest} {xs} e l h p =
-      let long : length (drop at s) ≡ length s - at = length-drop at s in
-      let all : rest ≡ drop at s = e ∙ take_all (length s - at) (drop at s) (omega (arith, long)) in
-      rw (le-leb (at + n) (length s) (omega (arith, long, ap (length {A = ℕ}) all)), p, all) refl
-
-  pub bytes-out : (n : ℕ) → length s < at + n → replicate n 0 ≡ bytes_at n s at
-  unfolding bytes_at
-  bytes-out n h = rw (lt-leb (at + n) (length s) h)
 
   le-bytes : (n : ℕ) → le (bytes_at n s at) ≡ num_at n s at
   unfolding bytes_at num_at

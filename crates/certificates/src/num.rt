@@ -5,17 +5,18 @@ ghost use Rattle.certificates.specs.Num.{bytes_at, num_at, hash_at};
 
 use crate::numbers::Hash;
 
-// The N bytes from `at` on, and zeros where they do not all lie in the slice.
+// The N bytes from `at` on, and zeros where they do not all lie in the slice. One test of the place is
+// all that a read waits for.
+#[tactic(auto, unfolding(crate::specs::Num::bytes_at))]
 fn bytes_at<const N: usize>(s: &[u8], at: usize) -> [u8; N]
     ensures { result ≡ bytes_at N s.now at }
 {
-    match s.get(at..) {
-        Some(rest) => match rest.first_chunk() {
-            Some(bytes) => *bytes,
-            None => [0; N],
-        },
-        None => [0; N],
+    if holds(s, at, N) {
+        if let Some(bytes) = s[at..at + N].first_chunk() {
+            return *bytes;
+        }
     }
+    [0; N]
 }
 
 // Whether w bytes from `at` on lie in s.

@@ -37,7 +37,7 @@ fn answer_to(record: &[u8]) -> Answer
     ensures { number result ≡ number_of «record».now }
 {
     let kind = form_of(record).ok_or(Refusal::BadRecord)?;
-    limit_of(record, kind)
+    limit_of(record, Some(kind))
 }
 
 // The answer to the record at the front of a trace: None where there is none, or it is cut.

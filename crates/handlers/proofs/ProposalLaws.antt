@@ -2,8 +2,8 @@
 --     leader-other, leader-author                        `leader_check`
 --     tc-none, tc-checked                                `tc_number`
 --     take_none, take-tc                                 `take_certificates`
---     payload-ready, payload-absent, payload-invalid     `by_payload`
---     proposal-leader, -qc, -tc, -taken                  `handle_proposal`
+--     check-leader, check-qc, check-tc                   `check_proposal`
+--     proposal-refused, proposal-taken                   `handle_proposal`
 use Prim.Native.Nat.{ℕ}
 use mathlib.Core.Bool.{Bool, true, false, cond}
 use lib.Dec.{eqb}

@@ -1,7 +1,7 @@
 -- Laws of TIMEOUT: one for each way out, and what the checks give once they are passed. Assumes nothing.
 --     timeout-stale, timeout-author                        `timeout_check`
 --     timeout-taken                                        `take_timeout`
---     timeout-refused, timeout-qc-refused, timeout-passed  `handle_timeout`
+--     timeout-refused, timeout-passed                      `handle_timeout`
 --     timeout-member                                       the author of a timeout that passed its checks is a member
 use Prim.Native.Nat.{ℕ, ◌≤◌, ◌<◌}
 use mathlib.Core.Bool.{Bool, true, false, cond}

@@ -9,8 +9,8 @@ use certificates::messages::QC;
 use certificates::numbers::{Hash, Place, Round, Signers};
 
 // The kind of each record.
-#[derive(Clone, Copy)]
-pub(crate) enum Kind {
+#[derive(Clone, Copy, Debug, PartialEq, Eq)]
+pub enum Kind {
     Vote = 0x0101,
     Timeout = 0x0102,
     Tc = 0x0103,

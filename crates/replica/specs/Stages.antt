@@ -1,8 +1,8 @@
 -- How the code goes about an event: what needs no block first, then the table, then the vote. `proofs.StageLaws` shows that the three
 -- together are `stepped`.
 --     Stage                     what the first part leaves, and what is to be done with the table
---     staged_of w slots room r  the first part
---     work_at                   what the table is asked for
+--     staged_of w slots room r  the first part; staged_by is that of a record's form
+--     work_at                   what the table is asked for; task_of as a task, is_block whether it is a block
 --     finished_of               the last part
 --     together                  the three, as one result
 --     Begins, Finishes          what the code of the two parts did

@@ -321,7 +321,7 @@ fn ready(
     ensures { Begins (ready_in seat stakes.now (whole core votes.old timeouts.old) (roomy slots (length out.old)) input.now kind) (roomy slots (length out.old)) input.now out.old result stakes.now votes.new timeouts.new out.new }
 {
     if is_roomy(slots, out.len()) {
-        return match limit_of(input, kind) {
+        return match limit_of(input, Some(kind)) {
             Ok(()) => {
                 let n = seat.count as usize;
                 let need = quorum_threshold(total);

@@ -28,6 +28,7 @@ use Rattle.outputs.proofs.Wrote.{all_none, wrote_none, wrote_one, wrote_then, wr
 use Rattle.std.specs.Prelude.{Result, Ok, Err}
 use Rattle.synchronizer.specs.declared.table.Slot.{Slot}
 use Rattle.synchronizer.specs.declared.ancestors.Ancestors.{Ancestors}
+use Rattle.synchronizer.specs.declared.ancestors.Unstored.{Unstored}
 use Rattle.synchronizer.specs.declared.settle.Task.{Task}
 use Rattle.synchronizer.specs.declared.settle.Task.TheVariants.{Nothing, Clear, Store}
 use Rattle.synchronizer.specs.declared.settle.Arrival.{Arrival}
@@ -40,7 +41,7 @@ use Rattle.certificates.proofs.ErrorLaws.{code-some}
 use Rattle.synchronizer.specs.Table.{slot_at, blank, place_of, stored, store_answer, cleared, b0_of, b1_of, ancestors_of, found_number}
 use Rattle.synchronizer.specs.Walk.{Commit, commit_of, chain_of}
 use Rattle.synchronizer.specs.Settle.{Settlement, answered, is_two_chain, clean_of, commit_if, commit_rec, linked_of, wait_of, asking, processed_by, processed_of, brought, is_store, settled_by, settled_of, clean_most, settle_most, Settles}
-use Rattle.synchronizer.specs.Parts.{Count, counted, count_of, placed, Admits, CommitsFit, RoomToAsk, Asks}
+use Rattle.synchronizer.specs.Parts.{Count, counted, count_of, with_found, placed, Admits, CommitsFit, RoomToAsk, Asks}
 use Rattle.certificates.proofs.Codes.{code-same, number-same}
 use Rattle.synchronizer.proofs.Tests.{by_cases}
 use Rattle.synchronizer.proofs.TableLaws.{ancestors-are, ancestors-found, ancestors-both, stored-length, cleared-length}
@@ -169,17 +170,33 @@ module _ (t : List Slot) (w : Arrival) (a : Ancestors) {before mid : List ℕ} (
 store-room : (i n : ℕ) → store_answer i n ≡ 0 → ltb i n ≡ true
 store-room i n = by_cases (ltb i n) (λ e. rw e (λ _. refl)) (λ e. rw e (λ z. absurd (omega arith)))
 
+-- with what was found, ancestors stay as they are, and a refusal is the same refusal
+found-ok : (t : List Slot) (b : Slot) (f : Result Ancestors Refusal) {a : Ancestors} → with_found t b f ≡ Ok a → f ≡ Ok a
+found-ok t b (Ok c) e = cc
+found-ok t b (Err x) e = absurd (let z : ◌≡◌ {A = ℕ} 0 1 = cc in omega arith)
+
+found-err : (t : List Slot) (b : Slot) (f : Result Ancestors Refusal) {u : Unstored} → with_found t b f ≡ Err u → f ≡ Err u.refusal
+found-err t b (Ok c) e = absurd (let z : ◌≡◌ {A = ℕ} 0 1 = cc in omega arith)
+found-err t b (Err x) {u} e =
+    let same : record { refusal = x; found = record { b0 = b0_of t b; b1 = b1_of t b } } ≡ u = cc in
+    ap (λ (v : Unstored). Err v.refusal) same
+
 module _ (t : List Slot) (b : Slot) where
-  module _ {a : Ancestors} (found : ancestors_of t b ≡ Ok a) {t' : List Slot} where
+  module _ {a : Ancestors} (e : with_found t b (ancestors_of t b) ≡ Ok a) {t' : List Slot} where
     -- a store that is refused changes nothing
-    pub admit-full : {x : Refusal} → (code x ≡ store_answer (place_of t b) (length t)) × (t' ≡ stored t b) → Admits t b (Err x) t'
+    pub admit-full : {x : Refusal} → (code x ≡ store_answer (place_of t b) (length t)) × (t' ≡ stored t b)
+        → Admits t b (Err (record { refusal = x; found = a })) t'
     unfolding stored
     admit-full {x} said =
+        let found = found-ok t b (ancestors_of t b) e in
         by_cases (ltb (place_of t b) (length t))
         (λ p. absurd (code-some x (said.0 ∙ rw p)))
         (λ p. let is : code x ≡ code TableFull = said.0 ∙ rw p in
         let same : x ≡ TableFull = code-same is in
-        record { answer = rw (found, p, same); slots = said.1 ∙ set_out t (place_of t b) b (ltb-false _ _ p) })
+        record {
+          answer = rw (found, p, same, ancestors-are t b found);
+          slots = rw (found, p) (said.1 ∙ set_out t (place_of t b) b (ltb-false _ _ p));
+        })
 
 -- what was placed had its ancestors and a place
 placed-ok : (p : Bool) (f : Result Ancestors Refusal) {a : Ancestors} → placed p f ≡ Ok a → (f ≡ Ok a) × (p ≡ true)
@@ -187,13 +204,16 @@ placed-ok true (Ok b) e = (e, refl)
 placed-ok false (Ok b) e = absurd (let z : ◌≡◌ {A = ℕ} 0 1 = cc in omega arith)
 placed-ok p (Err r) e = absurd (let z : ◌≡◌ {A = ℕ} 0 1 = cc in omega arith)
 
-module _ (t : List Slot) (w : Arrival) {r : Result Ancestors Refusal} {t' : List Slot} (got : Admits t w.block r t') where
+module _ (t : List Slot) (w : Arrival) {r : Result Ancestors Unstored} {t' : List Slot} (got : Admits t w.block r t') where
   module _ {a : Ancestors} (z : r ≡ Ok a) where
+    is-placed : placed (ltb (place_of t w.block) (length t)) (ancestors_of t w.block) ≡ Ok a
+    is-placed = found-ok t w.block (placed (ltb (place_of t w.block) (length t)) (ancestors_of t w.block)) (sym got.answer ∙ z)
+
     admitted : (ancestors_of t w.block ≡ Ok a) × (ltb (place_of t w.block) (length t) ≡ true)
-    admitted = placed-ok (ltb (place_of t w.block) (length t)) (ancestors_of t w.block) (sym got.answer ∙ z)
+    admitted = placed-ok (ltb (place_of t w.block) (length t)) (ancestors_of t w.block) is-placed
 
     now : t' ≡ stored t w.block
-    now = got.slots ∙ rw z
+    now = got.slots ∙ rw is-placed
 
     same-length : length t' ≡ length t
     same-length = ap length now ∙ stored-length t w.block
@@ -217,11 +237,12 @@ module _ (t : List Slot) (w : Arrival) {r : Result Ancestors Refusal} {t' : List
   refused-is (Ok a) e = full (ltb (place_of t w.block) (length t)) a _ e
   refused-is {x} (Err y) e = let same : y ≡ x = cc in ap (λ (r : Refusal). answered (code r) t w.last.0 []) same
 
-  pub process-none : {x : Refusal} (before : List ℕ) → r ≡ Err x
-      → Settles (processed_of t w) (settle_most (length t)) before w.at (record { answer = Err x; last = w.last; at = w.at }) t' before
+  pub process-none : {u : Unstored} (before : List ℕ) → r ≡ Err u
+      → Settles (processed_of t w) (settle_most (length t)) before w.at (record { answer = Err u.refusal; last = w.last; at = w.at }) t' before
   process-none before z =
-      rw (refused-is (ancestors_of t w.block) (sym got.answer ∙ z))
-      (record { answer = refl; last = refl; slots = got.slots ∙ rw z; bytes = wrote_none (settle_most (length t)) before w.at })
+      let is = found-err t w.block (placed (ltb (place_of t w.block) (length t)) (ancestors_of t w.block)) (sym got.answer ∙ z) in
+      rw (refused-is (ancestors_of t w.block) is)
+      (record { answer = refl; last = refl; slots = got.slots ∙ rw is; bytes = wrote_none (settle_most (length t)) before w.at })
 
 -- ---- what a block comes to, by its number
 

@@ -27,9 +27,12 @@ use Rattle.synchronizer.specs.declared.ancestors.Ancestors.{Ancestors}
 use Rattle.certificates.specs.declared.error.Refusal.{Refusal}
 use Rattle.certificates.specs.declared.error.Refusal.TheVariants.{WaitParent, TableFull, AncestorAbsent}
 use Rattle.certificates.specs.Error.{code}
+use Rattle.certificates.specs.Numbers.{zero_hash}
 use Rattle.certificates.specs.Messages.{is_genesis}
+use Rattle.certificates.proofs.MessageLaws.{genesis-round}
 use Rattle.std.proofs.lemmas.Option.{cond_some, none-some}
 use Rattle.synchronizer.specs.Table.{blank, slot_at, fits, lowest, found_in, place_of, stored, store_answer, cleared, genesis, found_at, parent_of, slot_in, b0_of, b1_of, ancestors_by, ancestors_of, found_number}
+use Rattle.synchronizer.specs.Parts.{with_found}
 use Rattle.synchronizer.proofs.Tests.{by_cases}
 
 -- ---- what was found
@@ -77,19 +80,26 @@ pub or-given : {A : Type 0} (o : Option A) (e : Refusal) {x : A} → ok_or o e �
 or-given None e h = absurd (let z : ◌≡◌ {A = ℕ} 0 1 = cc in omega arith)
 or-given (Some y) e h = let same : y ≡ _ = cc in ap Some same
 
+-- the QC of a blank slot equals genesis
+blank-parent : (t : List Slot) → parent_of t blank ≡ Some genesis
+unfolding parent_of
+blank-parent t = rw (sym (genesis-round zero_hash 0 refl refl))
+
 module _ (t : List Slot) (b : Slot) {p : Option Slot} (e : p ≡ parent_of t b) where
-  pub no-parent : {x : Refusal} → ok_or p WaitParent ≡ Err x → Err x ≡ ancestors_of t b
+  pub no-parent : {b0 b1 : Slot} → p ≡ None → b0 ≡ genesis → b1 ≡ blank
+      → Err (record { refusal = WaitParent; found = record { b0 = b0; b1 = b1 } }) ≡ with_found t b (ancestors_of t b)
   unfolding ancestors_of
-  no-parent h = let n = or-refused p WaitParent h in rw (← e, n.0, n.1)
+  no-parent none g s = let is = sym e ∙ none in rw (is, is, blank-parent t, g, s)
 
-  module _ {b1 : Slot} (one : ok_or p WaitParent ≡ Ok b1) {q : Option Slot} (f : q ≡ parent_of t b1) where
-    pub no-grandparent : {x : Refusal} → ok_or q AncestorAbsent ≡ Err x → Err x ≡ ancestors_of t b
+  module _ {b1 : Slot} (one : p ≡ Some b1) {q : Option Slot} (f : q ≡ parent_of t b1) where
+    pub no-grandparent : {b0 : Slot} → q ≡ None → b0 ≡ blank
+        → Err (record { refusal = AncestorAbsent; found = record { b0 = b0; b1 = b1 } }) ≡ with_found t b (ancestors_of t b)
     unfolding ancestors_of
-    no-grandparent h = let n = or-refused q AncestorAbsent h in rw (← e, or-given p WaitParent one, ← f, n.0, n.1)
+    no-grandparent none s = let is = sym e ∙ one in let absent = sym f ∙ none in rw (is, absent, is, absent, s)
 
-    pub both-found : {b0 : Slot} → ok_or q AncestorAbsent ≡ Ok b0 → Ok (record { b0 = b0; b1 = b1 }) ≡ ancestors_of t b
+    pub both-found : {b0 : Slot} → q ≡ Some b0 → Ok (record { b0 = b0; b1 = b1 }) ≡ with_found t b (ancestors_of t b)
     unfolding ancestors_of
-    both-found h = rw (← e, or-given p WaitParent one, ← f, or-given q AncestorAbsent h)
+    both-found some = let is = sym e ∙ one in let found = sym f ∙ some in rw (is, found)
 
 -- the ancestors that were found are the parent and the grandparent
 by-found : (p1 p0 : Option Slot) {a : Ancestors} → ancestors_by p1 p0 ≡ Ok a → a ≡ record { b0 = slot_in p0; b1 = slot_in p1 }

@@ -1,6 +1,7 @@
 // The parent and the grandparent of a block: synchronizer.rs.
 ghost use Rattle.std.specs.Prelude.{◌≡◌};
 ghost use Rattle.synchronizer.specs.Table.{genesis, parent_of, ancestors_of};
+ghost use Rattle.synchronizer.specs.Parts.{with_found};
 
 use crate::table::{Slot, Want, empty, find, slot_at};
 use certificates::error::Refusal;
@@ -11,6 +12,14 @@ use certificates::messages::is_genesis;
 pub struct Ancestors {
     pub b0: Slot,
     pub b1: Slot,
+}
+
+// Why a block is not stored, and its ancestors as far as they were found. A block that was not found is
+// an empty slot, and genesis is the parent of an empty slot.
+#[derive(Clone, Copy, Debug, PartialEq, Eq)]
+pub struct Unstored {
+    pub refusal: Refusal,
+    pub found: Ancestors,
 }
 
 // The genesis block, which is its own parent.
@@ -35,10 +44,23 @@ pub fn get_parent_block(table: &[Slot], block: Slot) -> Option<Slot>
 }
 
 // The block's parent b1 and grandparent b0. It answers 2 where b1 is absent, and 30 where b0 is.
-pub fn get_ancestors(table: &[Slot], block: Slot) -> Result<Ancestors, Refusal>
-    ensures { result ≡ ancestors_of table.now block }
+pub fn get_ancestors(table: &[Slot], block: Slot) -> Result<Ancestors, Unstored>
+    ensures { result ≡ with_found table.now block (ancestors_of table.now block) }
 {
-    let b1 = get_parent_block(table, block).ok_or(Refusal::WaitParent)?;
-    let b0 = get_parent_block(table, b1).ok_or(Refusal::AncestorAbsent)?;
+    let Some(b1) = get_parent_block(table, block) else {
+        return Err(Unstored {
+            refusal: Refusal::WaitParent,
+            found: Ancestors {
+                b0: genesis_block(),
+                b1: empty(),
+            },
+        });
+    };
+    let Some(b0) = get_parent_block(table, b1) else {
+        return Err(Unstored {
+            refusal: Refusal::AncestorAbsent,
+            found: Ancestors { b0: empty(), b1 },
+        });
+    };
     Ok(Ancestors { b0, b1 })
 }

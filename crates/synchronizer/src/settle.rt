@@ -5,7 +5,7 @@ ghost use Rattle.outputs.specs.Put.{Wrote};
 ghost use Rattle.synchronizer.specs.Settle.{is_two_chain, clean_of, commit_if, linked_of, processed_of, settled_of, clean_most, settle_most, RoomFor, Settles};
 ghost use Rattle.synchronizer.specs.Parts.{counted, count_of, Admits, CommitsFit, RoomToAsk, Asks};
 
-use crate::ancestors::{Ancestors, get_ancestors};
+use crate::ancestors::{Ancestors, Unstored, get_ancestors};
 use crate::commit::{COMMIT_SIZE, Chain, count_walk, write_commits};
 use crate::table::{Slot, clear, store};
 use certificates::error::{Answer, Refusal};
@@ -45,13 +45,16 @@ pub struct Settled {
     pub at: usize,
 }
 
-// A block's ancestors, and then its store, or why the block is not stored.
-pub fn admit(table: &mut [Slot], block: Slot) -> Result<Ancestors, Refusal>
+// A block's ancestors, and then its store, or why the block is not stored. Where the store has no place
+// for it, both ancestors were found.
+pub fn admit(table: &mut [Slot], block: Slot) -> Result<Ancestors, Unstored>
     ensures { Admits table.old block result table.new }
 {
-    let a = get_ancestors(table, block)?;
-    store(table, block)?;
-    Ok(a)
+    let found = get_ancestors(table, block)?;
+    match store(table, block) {
+        Ok(()) => Ok(found),
+        Err(refusal) => Err(Unstored { refusal, found }),
+    }
 }
 
 // Whether the second round is the first plus 1, which never wraps.
@@ -126,8 +129,8 @@ pub(crate) fn process_block(table: &mut [Slot], out: &mut [u8], w: Arrival) -> S
 {
     match admit(table, w.block) {
         Ok(a) => commit(table, out, w, a),
-        Err(refusal) => Settled {
-            answer: Err(refusal),
+        Err(unstored) => Settled {
+            answer: Err(unstored.refusal),
             last: w.last,
             at: w.at,
         },

@@ -4,7 +4,8 @@
 --     empty_tc r k                     "LOOPBACK with an empty TC"
 --     bounded c x                      20 if a list of c signers is too long, else 19 if the round x is too high, else 0
 --     limit_of r k                     the number that the record gets by its limits; 0 for one within them
-use Rattle.std.specs.Prelude.{ℕ, Bool, false, cond, List, [], ◌∷◌, ltb, eqb}
+--     limit_in r k                     that of a record of the kind, if it has one; 0 without a form
+use Rattle.std.specs.Prelude.{ℕ, Bool, false, cond, List, [], ◌∷◌, ltb, eqb, Option, Some, None}
 use Rattle.certificates.specs.Num.{num_at}
 use Rattle.certificates.specs.Numbers.{round_max}
 use Rattle.trace.specs.Layout.{signers_max, qc_round, qc_count, tc_count, tc_rounds, block_qc, timeout_qc, tc_body, tc_at}
@@ -54,3 +55,8 @@ limit_of r k =
     (cond (any_above signers_max (counts_of r k)) 20
     (cond (any_above round_max (rounds_of r k)) 19
     0))
+
+-- a record without a form has no list and no round that a limit is for
+abbrev pub limit_in : List ℕ → Option Kind → ℕ
+limit_in r None = 0
+limit_in r (Some k) = limit_of r k

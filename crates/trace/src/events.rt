@@ -15,7 +15,7 @@ ghost use Rattle.std.specs.Prelude.{◌≡◌, ◌^◌, ◌<◌, length, drop, s
 ghost use Rattle.certificates.specs.Error.{number};
 ghost use Rattle.trace.specs.Layout.{signers_max, count_of, size_by, part_of, qc_part, tc_part, flag_at, tc_at, block_end, payload_of, tc_rounds, largest, largest_high, highs_of};
 ghost use Rattle.trace.specs.Form.{Numbered, is_formed, form_of, are_marks};
-ghost use Rattle.trace.specs.Limits.{empty_tc, bounded, limit_of};
+ghost use Rattle.trace.specs.Limits.{empty_tc, bounded, limit_of, limit_in};
 ghost use Rattle.trace.specs.Fields.{vote_of, timeout_of, block_of};
 
 use crate::part::{after, byte_at, first};
@@ -344,11 +344,14 @@ fn has_empty_tc(record: &[u8]) -> bool
     tc_at(record).is_some_and(|tc| TC.count_at(record, tc) == 0)
 }
 
-// Refuses a record that passes a limit: with 32, 20 or 19, in this order.
+// Refuses a record that passes a limit: with 32, 20 or 19, in this order. One without a form passes none.
 #[tactic(auto, using(crate::proofs::Bounds::any_largest), unfolding(crate::specs::Limits::limit_of, crate::specs::Limits::bounded, crate::specs::Layout::largest))]
-pub fn limit_of(record: &[u8], kind: Kind) -> Answer
-    ensures { number result ≡ limit_of «record».now kind }
+pub fn limit_of(record: &[u8], kind: Option<Kind>) -> Answer
+    ensures { number result ≡ limit_in «record».now kind }
 {
+    let Some(kind) = kind else {
+        return Ok(());
+    };
     match kind {
         Kind::Start | Kind::Tick => Ok(()),
         Kind::Propose => block_limit(record),
